@@ -1,0 +1,3 @@
+pub mod Spelling
+pub mod Degrees
+pub mod Counts

@@ -1,0 +1,9 @@
+pub mod Refusals
+pub mod Trees
+pub mod Links
+pub mod Plans
+pub mod Edits
+pub mod Letters
+pub mod Loads
+pub mod Packing
+pub mod Book
