@@ -4,3 +4,4 @@ pub mod Holding
 pub mod Swapping
 pub mod Taking
 pub mod Putting
+pub mod Branching

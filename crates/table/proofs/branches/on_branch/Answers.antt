@@ -1,0 +1,35 @@
+use mathlib.Core.Path.{_≡_, sym, ap, _∙_}
+use Prim.Native.Nat.{_-_, _+_, suc}
+use lib.ListN.{length}
+use native.Mathlib.Omega.{arith}
+use borrow.Author.Needs.{needs}
+use Rattle.rules.specs.Letters.{among}
+use Rattle.table.specs.Branches.{branch}
+use Rattle.table.proofs.Branching.{branch-out, branch-none, among-nil, among-here, among-more}
+use Rattle.table.proofs.branches.on_branch.Needs as need
+
+pub returns-then-link-blocks : need.returns-then-link-blocks
+returns-then-link-blocks c =
+    let l = c .loop-step in
+    sym (among-nil (c .args .side) (c .args .blocks .now) (c .args .i) _ (branch-out (c .args .side) (c .args .blocks .now) _ (l .link) (c .if-link-blocks .taken))) ∙ l .inv .0
+
+pub returns-then-link-i : need.returns-then-link-i
+returns-then-link-i c =
+    let l = c .loop-step in
+    let bs = c .args .blocks .now in
+    let e : length bs - l .step ≡ suc (length bs - (l .step + 1)) = omega arith in
+    sym (among-here (c .args .side) bs (c .args .i) _ _ (l .link) e (c .if-link-blocks .left) (c .if-link-i .taken)) ∙ l .inv .0
+
+pub loop-step-again : need.loop-step-again
+loop-step-again c =
+    let l = c .loop-step in
+    let s = c .args .side in
+    let bs = c .args .blocks .now in
+    let e : length bs - l .step ≡ suc (length bs - (l .step + 1)) = omega arith in
+    (ap (λ k. among (c .args .i) (branch s bs (length bs - (l .step + 1)) k)) (c .child-of-link .ensures)
+      ∙ sym (among-more s bs (c .args .i) _ _ (l .link) e (c .if-link-blocks .left) (c .if-link-i .left)) ∙ l .inv .0, search needs)
+
+pub returns : need.returns
+returns c =
+    let l = c .loop-step in
+    sym (among-nil (c .args .side) (c .args .blocks .now) (c .args .i) _ (branch-none (c .args .side) (c .args .blocks .now) _ (l .link) (omega arith))) ∙ l .inv .0
