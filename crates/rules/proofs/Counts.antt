@@ -58,20 +58,22 @@ pub take-out-others : (m i : ℕ) (t : Tree) → (m ≡ i → ⊥) → count m (
 unfolding take-out
 take-out-others m i empty d = refl
 take-out-others m i (node k a c) d = elim (cases-eq k i) [
-      inl p ↦
-        ap (count m) (cond-true _ _ _ (eq-eqb k i p)) ∙ join-count m a c ∙ sym (others m k a c (λ q. d (q ∙ p)))
-    | inr e ↦
-        ap (count m) (cond-false _ _ _ (ne-eqb k i e)) ∙ same-node m k a c (take-out i a) (take-out i c) (take-out-others m i a d) (take-out-others m i c d) ]
+  | inl p ↦
+      ap (count m) (cond-true _ _ _ (eq-eqb k i p)) ∙ join-count m a c ∙ sym (others m k a c (λ q. d (q ∙ p)))
+  | inr e ↦
+      ap (count m) (cond-false _ _ _ (ne-eqb k i e)) ∙ same-node m k a c (take-out i a) (take-out i c) (take-out-others m i a d) (take-out-others m i c d)
+]
 
 pub take-out-own : (i : ℕ) (t : Tree) → count i t ≤ 1 → count i (take-out i t) ≡ 0
 unfolding take-out
 take-out-own i empty h = no-count i
 take-out-own i (node k a c) h = elim (cases-eq k i) [
-      inl p ↦
-        ap (count i) (cond-true _ _ _ (eq-eqb k i p)) ∙ join-count i a c ∙ omega (arith, own k a c, ap (λ q. count q (node k a c)) p, ap (λ q. count q a) p, ap (λ q. count q c) p)
-    | inr e ↦
-        ap (count i) (cond-false _ _ _ (ne-eqb k i e)) ∙ others i k (take-out i a) (take-out i c) (λ q. e (sym q))
-          ∙ omega (arith, take-out-own i a (omega (arith, parts-le i k a c)), take-out-own i c (omega (arith, parts-le i k a c))) ]
+  | inl p ↦
+      ap (count i) (cond-true _ _ _ (eq-eqb k i p)) ∙ join-count i a c ∙ omega (arith, own k a c, ap (λ q. count q (node k a c)) p, ap (λ q. count q a) p, ap (λ q. count q c) p)
+  | inr e ↦
+      ap (count i) (cond-false _ _ _ (ne-eqb k i e)) ∙ others i k (take-out i a) (take-out i c) (λ q. e (sym q))
+      ∙ omega (arith, take-out-own i a (omega (arith, parts-le i k a c)), take-out-own i c (omega (arith, parts-le i k a c)))
+]
 
 under-count : (s : Side) (m i : ℕ) (a c : Tree) → count m (left-under s i a) + count m (right-under s i c) ≡ (count m a + count m c) + count m (node i empty empty)
 unfolding count
@@ -91,15 +93,17 @@ pub hang-count : (s : Side) (i j m : ℕ) (t : Tree) → count j t ≡ 1 → cou
 unfolding hang
 hang-count s i j m empty e = absurd (omega (arith, no-count j))
 hang-count s i j m (node k a c) e = elim (cases-eq k j) [
-      inl p ↦
-        ap (count m) (cond-true _ _ _ (eq-eqb k j p)) ∙ more-node m k a c (left-under s i a) (right-under s i c) _ (under-count s m i a c)
-    | inr d ↦
-        let o = others j k a c (λ q. d (sym q)) in
-        let r : count m (hang s i j a) + count m (hang s i j c) ≡ (count m a + count m c) + count m (node i empty empty)
-              = elim (cases-lt 0 (count j a)) [
-                  inl h ↦ omega (arith, hang-count s i j m a (omega arith), ap (count m) (hang-none s i j c (omega arith)))
-                | inr h ↦ omega (arith, hang-count s i j m c (omega arith), ap (count m) (hang-none s i j a (omega arith))) ] in
-        ap (count m) (cond-false _ _ _ (ne-eqb k j d)) ∙ more-node m k a c (hang s i j a) (hang s i j c) _ r ]
+  | inl p ↦
+      ap (count m) (cond-true _ _ _ (eq-eqb k j p)) ∙ more-node m k a c (left-under s i a) (right-under s i c) _ (under-count s m i a c)
+  | inr d ↦
+      let o = others j k a c (λ q. d (sym q)) in
+      let r : count m (hang s i j a) + count m (hang s i j c) ≡ (count m a + count m c) + count m (node i empty empty)
+      = elim (cases-lt 0 (count j a)) [
+        | inl h ↦ omega (arith, hang-count s i j m a (omega arith), ap (count m) (hang-none s i j c (omega arith)))
+        | inr h ↦ omega (arith, hang-count s i j m c (omega arith), ap (count m) (hang-none s i j a (omega arith)))
+      ] in
+      ap (count m) (cond-false _ _ _ (ne-eqb k j d)) ∙ more-node m k a c (hang s i j a) (hang s i j c) _ r
+]
 
 pub put-in-hang : (i j : ℕ) (s : Side) (t : Tree) → 0 < count j t → put-in i j s t ≡ hang s i j t
 unfolding put-in

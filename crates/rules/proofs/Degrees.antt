@@ -42,15 +42,16 @@ weigh-one : (f : ℕ → ℕ) (n m x : ℕ) → x < n → weigh f n m (λ p. con
 unfolding weigh sum-below
 weigh-one f zero m x h = absurd (omega arith)
 weigh-one f (suc n) m x h = elim (cases-eq n x) [
-      inl e ↦
-        let z : _≡_ {A = ℕ} (cond (eqb n x) 1 0) 1 = cond-true _ _ _ (eq-eqb n x e) in
-        let a : cond (eqb (f n) m) (cond (eqb n x) 1 0) 0 ≡ cond (eqb (f x) m) 1 0 = ap (λ w. cond (eqb (f n) m) w 0) z ∙ ap {B = ℕ} (λ q. cond (eqb (f q) m) 1 0) e in
-        let b = weigh-none f n m x (omega arith) in
-        omega (arith, a, b)
-    | inr d ↦
-        let z : _≡_ {A = ℕ} (cond (eqb n x) 1 0) 0 = cond-false _ _ _ (ne-eqb n x d) in
-        let a : cond (eqb (f n) m) (cond (eqb n x) 1 0) 0 ≡ 0 = ap (λ w. cond (eqb (f n) m) w 0) z ∙ same (eqb (f n) m) in
-        omega (arith, a, weigh-one f n m x (omega arith)) ]
+  | inl e ↦
+      let z : _≡_ {A = ℕ} (cond (eqb n x) 1 0) 1 = cond-true _ _ _ (eq-eqb n x e) in
+      let a : cond (eqb (f n) m) (cond (eqb n x) 1 0) 0 ≡ cond (eqb (f x) m) 1 0 = ap (λ w. cond (eqb (f n) m) w 0) z ∙ ap {B = ℕ} (λ q. cond (eqb (f q) m) 1 0) e in
+      let b = weigh-none f n m x (omega arith) in
+      omega (arith, a, b)
+  | inr d ↦
+      let z : _≡_ {A = ℕ} (cond (eqb n x) 1 0) 0 = cond-false _ _ _ (ne-eqb n x d) in
+      let a : cond (eqb (f n) m) (cond (eqb n x) 1 0) 0 ≡ 0 = ap (λ w. cond (eqb (f n) m) w 0) z ∙ same (eqb (f n) m) in
+      omega (arith, a, weigh-one f n m x (omega arith))
+]
   where
     same : (b : Bool) → _≡_ {A = ℕ} (cond b 0 0) 0
     same true = refl
@@ -87,8 +88,9 @@ weigh-le f (suc n) m w h =
 
 eqb-turn : (a b : ℕ) → eqb a b ≡ eqb b a
 eqb-turn a b = elim (cases-eq a b) [
-      inl e ↦ eq-eqb a b e ∙ sym (eq-eqb b a (sym e))
-    | inr d ↦ ne-eqb a b d ∙ sym (ne-eqb b a (λ e. d (sym e))) ]
+  | inl e ↦ eq-eqb a b e ∙ sym (eq-eqb b a (sym e))
+  | inr d ↦ ne-eqb a b d ∙ sym (ne-eqb b a (λ e. d (sym e)))
+]
 
 -- a link to a block or to none
 abbrev pub Link : ℕ → ℕ → Type 0
@@ -157,10 +159,10 @@ module _ (L R : ℕ → ℕ) (n : ℕ) (small : n ≤ 65535) (ll : (p : ℕ) →
       let il = flip f (L x) m (ll x k) h in
       let ir = flip f (R x) m (rl x k) h in
       let part : (g : ℕ → ℕ) → weigh g n m (λ p. count p (grow L R (suc f) x)) ≡ cond (eqb m (g x)) 1 0 + (weigh g n m (λ p. count p (grow L R f (L x))) + weigh g n m (λ p. count p (grow L R f (R x))))
-            = λ g.
-              weigh-same g n m (λ p. count p (grow L R (suc f) x)) (λ p. cond (eqb p x) 1 0 + (count p (grow L R f (L x)) + count p (grow L R f (R x)))) (λ p. count-node f x p k)
-              ∙ weigh-add g n m (λ p. cond (eqb p x) 1 0) (λ p. count p (grow L R f (L x)) + count p (grow L R f (R x)))
-              ∙ omega (arith, weigh-one g n m x k, ap {B = ℕ} (λ b. cond b 1 0) (eqb-turn (g x) m), weigh-add g n m (λ p. count p (grow L R f (L x))) (λ p. count p (grow L R f (R x)))) in
+      = λ g.
+      weigh-same g n m (λ p. count p (grow L R (suc f) x)) (λ p. cond (eqb p x) 1 0 + (count p (grow L R f (L x)) + count p (grow L R f (R x)))) (λ p. count-node f x p k)
+      ∙ weigh-add g n m (λ p. cond (eqb p x) 1 0) (λ p. count p (grow L R f (L x)) + count p (grow L R f (R x)))
+      ∙ omega (arith, weigh-one g n m x k, ap {B = ℕ} (λ b. cond b 1 0) (eqb-turn (g x) m), weigh-add g n m (λ p. count p (grow L R f (L x))) (λ p. count p (grow L R f (R x)))) in
       omega (arith, a, il, ir, part L, part R)
 
   -- the blocks of a tree are below n
@@ -175,28 +177,37 @@ module _ (L R : ℕ → ℕ) (n : ℕ) (small : n ≤ 65535) (ll : (p : ℕ) →
       → (f m : ℕ) → count m (grow L R f root) ≤ 1
   at-most root k z u zero m = omega (arith, count-start root m)
   at-most root k z u (suc f) m = elim (cases-lt m n) [
-        inr h ↦ omega (arith, past (suc f) root m (inl k) h)
-      | inl h ↦
-          let a = flip f root m (inl k) h in
-          let w = at-most root k z u f in
-          let b = weigh-le L n m (λ p. count p (grow L R f root)) w in
-          let c = weigh-le R n m (λ p. count p (grow L R f root)) w in
-          elim (cases-eq m root) [
-            inl e ↦
+    | inr h ↦ omega (arith, past (suc f) root m (inl k) h)
+    | inl h ↦
+        let a = flip f root m (inl k) h in
+        let w = at-most root k z u f in
+        let b = weigh-le L n m (λ p. count p (grow L R f root)) w in
+        let c = weigh-le R n m (λ p. count p (grow L R f root)) w in
+        elim (cases-eq m root) [
+          | inl e ↦
               let d : _≡_ {A = ℕ} (cond (eqb m root) 1 0) 1 = cond-true _ _ _ (eq-eqb m root e) in
               omega (arith, a, b, c, d, ap (leading L n) e, ap (leading R n) e)
           | inr q ↦
               let d : _≡_ {A = ℕ} (cond (eqb m root) 1 0) 0 = cond-false _ _ _ (ne-eqb m root q) in
-              omega (arith, a, b, c, d, u m h) ] ]
+              omega (arith, a, b, c, d, u m h)
+        ]
+  ]
 
   sized : (f x : ℕ) → Link n x → sum-below (λ m. count m (grow L R f x)) n ≡ size (grow L R f x)
   sized zero x l = sum-same (λ m. count m (grow L R 0 x)) n (λ m. count-start x m) ∙ sym (size-start x)
   sized (suc f) x (inr e) = sum-same (λ m. count m (grow L R (suc f) x)) n (λ m. count-none (suc f) x m e) ∙ sym (ap size (grow-none (suc f) x e) ∙ size-empty)
   sized (suc f) x (inl k) =
       weigh-all (λ m. count m (grow L R (suc f) x)) (λ m. cond (eqb m x) 1 0 + (count m (grow L R f (L x)) + count m (grow L R f (R x)))) n (λ m. count-node f x m k)
-      ∙ omega (arith, sum-add (λ m. cond (eqb m x) 1 0) (λ m. count m (grow L R f (L x)) + count m (grow L R f (R x))) n,
-          sum-add (λ m. count m (grow L R f (L x))) (λ m. count m (grow L R f (R x))) n, sum-one x n k,
-          sized f (L x) (ll x k), sized f (R x) (rl x k), ap size (grow-node f x k), size-node x (grow L R f (L x)) (grow L R f (R x)))
+      ∙ omega (
+        arith,
+        sum-add (λ m. cond (eqb m x) 1 0) (λ m. count m (grow L R f (L x)) + count m (grow L R f (R x))) n,
+        sum-add (λ m. count m (grow L R f (L x))) (λ m. count m (grow L R f (R x))) n,
+        sum-one x n k,
+        sized f (L x) (ll x k),
+        sized f (R x) (rl x k),
+        ap size (grow-node f x k),
+        size-node x (grow L R f (L x)) (grow L R f (R x)),
+      )
 
   filled : (f x : ℕ) → Link n x → size (grow L R f x) < f → Spells L R n x (grow L R f x)
   filled zero x l h = absurd (omega arith)
@@ -204,7 +215,7 @@ module _ (L R : ℕ → ℕ) (n : ℕ) (small : n ≤ 65535) (ll : (p : ℕ) →
   filled (suc f) x (inl k) h =
       let z = ap size (grow-node f x k) ∙ size-node x (grow L R f (L x)) (grow L R f (R x)) in
       subst (Spells L R n x) (sym (grow-node f x k))
-        (refl, k, filled f (L x) (ll x k) (omega arith), filled f (R x) (rl x k) (omega arith))
+      (refl, k, filled f (L x) (ll x k) (omega arith), filled f (R x) (rl x k) (omega arith))
 
   -- where no block is child twice and the root is no child, the links from the root spell a tree
   pub spelt-by-degrees : (root : ℕ) → root < n → leading L n root + leading R n root ≡ 0 → ((m : ℕ) → m < n → leading L n m + leading R n m ≤ 1)

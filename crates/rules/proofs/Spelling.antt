@@ -39,7 +39,6 @@ grow-is L R n i (suc f) (node k l r) h z s =
     let e = s .0 in
     cond-false _ _ _ (ne-eqb i 65535 ne) ∙ cc
 
-
 pub sum-add : (g h : ℕ → ℕ) (n : ℕ) → sum-below (λ k. g k + h k) n ≡ sum-below g n + sum-below h n
 unfolding sum-below
 sum-add g h zero = refl
@@ -61,12 +60,13 @@ pub sum-one : (k n : ℕ) → k < n → sum-below (λ m. cond (eqb m k) 1 0) n �
 unfolding sum-below
 sum-one k zero h = absurd (omega arith)
 sum-one k (suc n) h = elim (cases-eq n k) [
-      inl e ↦
-        let a : _≡_ {A = ℕ} (cond (eqb n k) 1 0) 1 = cond-true _ _ _ (eq-eqb n k e) in
-        omega (arith, a, sum-none k n (omega arith))
-    | inr d ↦
-        let a : _≡_ {A = ℕ} (cond (eqb n k) 1 0) 0 = cond-false _ _ _ (ne-eqb n k d) in
-        omega (arith, a, sum-one k n (omega arith)) ]
+  | inl e ↦
+      let a : _≡_ {A = ℕ} (cond (eqb n k) 1 0) 1 = cond-true _ _ _ (eq-eqb n k e) in
+      omega (arith, a, sum-none k n (omega arith))
+  | inr d ↦
+      let a : _≡_ {A = ℕ} (cond (eqb n k) 1 0) 0 = cond-false _ _ _ (ne-eqb n k d) in
+      omega (arith, a, sum-one k n (omega arith))
+]
 
 pub sum-le : (g : ℕ → ℕ) (n : ℕ) → ((k : ℕ) → g k ≤ 1) → sum-below g n ≤ n
 unfolding sum-below
@@ -77,8 +77,14 @@ size-sum : (L R : ℕ → ℕ) (n i : ℕ) (t : Tree) → Spells L R n i t → s
 unfolding count size
 size-sum L R n i empty s = sum-zero n
 size-sum L R n i (node k l r) s =
-    omega (arith, sum-add (λ m. cond (eqb m k) 1 0) (λ m. count m l + count m r) n, sum-add (λ m. count m l) (λ m. count m r) n,
-      sum-one k n (s .1), size-sum L R n (L k) l (s .2), size-sum L R n (R k) r (s .3))
+    omega (
+      arith,
+      sum-add (λ m. cond (eqb m k) 1 0) (λ m. count m l + count m r) n,
+      sum-add (λ m. count m l) (λ m. count m r) n,
+      sum-one k n (s .1),
+      size-sum L R n (L k) l (s .2),
+      size-sum L R n (R k) r (s .3),
+    )
 
 -- a tree in which no block stands twice is no larger than the table
 pub size-le : (L R : ℕ → ℕ) (n i : ℕ) (t : Tree) → Spells L R n i t → ((k : ℕ) → count k t ≤ 1) → size t ≤ n

@@ -39,9 +39,9 @@ absent-refusal p i = when (leb (block-count p) i) (NoSuchBlock i) (when (not (pr
 abbrev pub pair-refusal : Plan → ℕ → ℕ → Option Refusal
 pair-refusal p i j =
     when (leb (block-count p) i) (NoSuchBlock i)
-      (when (leb (block-count p) j) (NoSuchBlock j)
-        (when (eqb i j) (SameBlock i)
-          (when (not (present p i)) (Absent i) (when (not (present p j)) (Absent j) None))))
+    (when (leb (block-count p) j) (NoSuchBlock j)
+    (when (eqb i j) (SameBlock i)
+    (when (not (present p i)) (Absent i) (when (not (present p j)) (Absent j) None))))
 
 -- 9 and 22 for i, then unless the tree is empty 9 and 21 for j
 abbrev pub put-refusal : Plan → ℕ → ℕ → Option Refusal

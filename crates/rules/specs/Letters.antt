@@ -13,7 +13,7 @@ use Rattle.rules.specs.Trees.{Tree, leftmost, rightmost, left-foot, right-foot
 abbrev pub letter-of : ℕ → Option Letter
 letter-of b =
     cond (eqb b 70) (Some Free)
-      (cond (eqb b 84) (Some Top) (cond (eqb b 66) (Some Bottom) (cond (eqb b 76) (Some Left) (cond (eqb b 82) (Some Right) None))))
+    (cond (eqb b 84) (Some Top) (cond (eqb b 66) (Some Bottom) (cond (eqb b 76) (Some Left) (cond (eqb b 82) (Some Right) None))))
 
 -- whether i stands in the list
 unfoldable pub among : ℕ → List ℕ → Bool

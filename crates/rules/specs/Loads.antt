@@ -69,22 +69,22 @@ wrong-root n root = cond (eqb n 0) (not (eqb root 65535)) (leb n root)
 abbrev pub room-refusal : Given → Option Refusal → Option Refusal
 room-refusal g after =
     when (ltb 512 (length (g .sizes))) (TooManyBlocks 0)
-      (when (not (eqb (length (g .letters)) (length (g .sizes)) && eqb (length (g .children)) (length (g .sizes)))) LengthsDiffer
-        (when (ltb (g .walk) (length (g .sizes))) MemoryTooShort after))
+    (when (not (eqb (length (g .letters)) (length (g .sizes)) && eqb (length (g .children)) (length (g .sizes)))) LengthsDiffer
+    (when (ltb (g .walk) (length (g .sizes))) MemoryTooShort after))
 
 -- 3, 4, 5: the first block at fault
 abbrev pub block-refusal : Given → Option Refusal → Option Refusal
 block-refusal g after =
     when-found (first (wrong-size (g .sizes)) 0 (length (g .sizes))) SideOutOfRange
-      (when-found (first (wrong-letter (g .letters)) 0 (length (g .letters))) UnknownLetter
-        (when-found (first (wrong-children (g .children)) 0 (length (g .children))) WrongChild after))
+    (when-found (first (wrong-letter (g .letters)) 0 (length (g .letters))) UnknownLetter
+    (when-found (first (wrong-children (g .children)) 0 (length (g .children))) WrongChild after))
 
 -- 6, 7, 8: the root, then the lowest block at fault
 abbrev pub tree-refusal : List Children → ℕ → Option Refusal
 tree-refusal cs root =
     when (wrong-root (length cs) root) WrongRoot
-      (when-found (first (named-twice cs root) 0 (length cs)) ChildTwice
-        (when-found (first (unreached cs root) 0 (length cs)) Unreached None))
+    (when-found (first (named-twice cs root) 0 (length cs)) ChildTwice
+    (when-found (first (unreached cs root) 0 (length cs)) Unreached None))
 
 -- the first refusal of a load, if there is one
 unfoldable pub load-refusal : Given → Option Refusal

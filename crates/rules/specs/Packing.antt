@@ -45,12 +45,12 @@ highest (p ∷ ps) a b = max (cond (meet (p .x) (right-edge p) a b) (top p) 0) (
 -- the block of a spot, resting on the blocks placed before it
 abbrev pub rest-on : List Size → List Rect → Spot → Rect
 rest-on sizes placed s = record {
-      block = s .block;
-      x = s .left;
-      y = highest placed (s .left) (s .left + size-at sizes (s .block) .width);
-      width = size-at sizes (s .block) .width;
-      height = size-at sizes (s .block) .height;
-    }
+  block = s .block;
+  x = s .left;
+  y = highest placed (s .left) (s .left + size-at sizes (s .block) .width);
+  width = size-at sizes (s .block) .width;
+  height = size-at sizes (s .block) .height;
+}
 
 -- one spot after the other; the block placed last stands first
 abbrev pub settle : List Size → List Rect → List Spot → List Rect

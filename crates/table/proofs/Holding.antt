@@ -39,7 +39,8 @@ module _ {bs : List Block} {root : ℕ} {t : Tree} (h : Holds bs root t) where
 
   pub in-tree-within : (k : ℕ) → 0 < count k t → k < length bs
   in-tree-within k p = elim (cases-lt k (length bs)) [
-        inl l ↦ l
-      | inr l ↦
-          let e : _≡_ {A = ℕ} (cond (at bs k .present) 1 0) 0 = ap {B = ℕ} (λ b. cond (b .present) 1 0) (getD-past bs k blank l) in
-          absurd (omega (arith, h .once k)) ]
+    | inl l ↦ l
+    | inr l ↦
+        let e : _≡_ {A = ℕ} (cond (at bs k .present) 1 0) 0 = ap {B = ℕ} (λ b. cond (b .present) 1 0) (getD-past bs k blank l) in
+        absurd (omega (arith, h .once k))
+  ]

@@ -21,12 +21,18 @@ use Rattle.table.proofs.Holding.{Sp, frame-at, in-tree-present, in-tree-once, 
 module _ (bs es : List Block) (n i j : ℕ) (hi : i < n) (hj : j < n) where
   sides : (s : Side) → at es i ≡ below-by s (at bs j) (at bs i) → at es j ≡ above-by s i (at bs j)
       → (a c : Tree) → Sp es n (at bs j .left) a → Sp es n (at bs j .right) c → Sp es n j (node j (left-under s i a) (right-under s i c))
-  sides Left ei ej a c fa fc =
-      (refl, hj, (ap (λ b. b .left) ej, hi, subst (λ z. Sp es n z a) (sym (ap (λ b. b .left) ei)) fa, ap (λ b. b .right) ei),
-        subst (λ z. Sp es n z c) (sym (ap (λ b. b .right) ej)) fc)
-  sides Right ei ej a c fa fc =
-      (refl, hj, subst (λ z. Sp es n z a) (sym (ap (λ b. b .left) ej)) fa,
-        (ap (λ b. b .right) ej, hi, ap (λ b. b .left) ei, subst (λ z. Sp es n z c) (sym (ap (λ b. b .right) ei)) fc))
+  sides Left ei ej a c fa fc = (
+    refl,
+    hj,
+    (ap (λ b. b .left) ej, hi, subst (λ z. Sp es n z a) (sym (ap (λ b. b .left) ei)) fa, ap (λ b. b .right) ei),
+    subst (λ z. Sp es n z c) (sym (ap (λ b. b .right) ej)) fc,
+  )
+  sides Right ei ej a c fa fc = (
+    refl,
+    hj,
+    subst (λ z. Sp es n z a) (sym (ap (λ b. b .left) ej)) fa,
+    (ap (λ b. b .right) ej, hi, ap (λ b. b .left) ei, subst (λ z. Sp es n z c) (sym (ap (λ b. b .right) ei)) fc),
+  )
 
   hanging : (s : Side) → at es i ≡ below-by s (at bs j) (at bs i) → at es j ≡ above-by s i (at bs j)
       → ((m : ℕ) → (m ≡ i → ⊥) → (m ≡ j → ⊥) → at es m ≡ at bs m)
@@ -37,23 +43,24 @@ module _ (bs es : List Block) (n i j : ℕ) (hi : i < n) (hj : j < n) where
       let za : count i a ≡ 0 = omega (arith, parts-le i k a c) in
       let zc : count i c ≡ 0 = omega (arith, parts-le i k a c) in
       elim (cases-eq k j) [
-        inl p ↦
-          let q = own k a c in
-          let e1 = ap (λ y. count y (node k a c)) p in
-          let ya : count j a ≡ 0 = omega (arith, ap (λ y. count y a) p) in
-          let yc : count j c ≡ 0 = omega (arith, ap (λ y. count y c) p) in
-          let fa = frame-at bs es n (lefts bs k) a (λ m h. o m (not-in i m a za h) (not-in j m a ya h)) (w .2) in
-          let fc = frame-at bs es n (rights bs k) c (λ m h. o m (not-in i m c zc h) (not-in j m c yc h)) (w .3) in
-          let r = sides s ei ej a c (subst (λ y. Sp es n (lefts bs y) a) p fa) (subst (λ y. Sp es n (rights bs y) c) p fc) in
-          let r′ = subst (λ y. Sp es n y (node y (left-under s i a) (right-under s i c))) (sym p) r in
-          subst (λ y. Sp es n x y) (sym (cond-true _ _ _ (eq-eqb k j p))) (w .0, w .1, r′ .2, r′ .3)
-      | inr d ↦
-          let di : k ≡ i → ⊥ = λ p. omega (arith, own k a c, ap (λ y. count y (node k a c)) p) in
-          let e = o k di d in
-          let sa = hanging s ei ej o (lefts bs k) a (omega (arith, parts-le j k a c)) za (w .2) in
-          let sc = hanging s ei ej o (rights bs k) c (omega (arith, parts-le j k a c)) zc (w .3) in
-          subst (λ y. Sp es n x y) (sym (cond-false _ _ _ (ne-eqb k j d)))
-            (w .0, w .1, subst (λ y. Sp es n y (hang s i j a)) (sym (ap (λ b. b .left) e)) sa, subst (λ y. Sp es n y (hang s i j c)) (sym (ap (λ b. b .right) e)) sc) ]
+        | inl p ↦
+            let q = own k a c in
+            let e1 = ap (λ y. count y (node k a c)) p in
+            let ya : count j a ≡ 0 = omega (arith, ap (λ y. count y a) p) in
+            let yc : count j c ≡ 0 = omega (arith, ap (λ y. count y c) p) in
+            let fa = frame-at bs es n (lefts bs k) a (λ m h. o m (not-in i m a za h) (not-in j m a ya h)) (w .2) in
+            let fc = frame-at bs es n (rights bs k) c (λ m h. o m (not-in i m c zc h) (not-in j m c yc h)) (w .3) in
+            let r = sides s ei ej a c (subst (λ y. Sp es n (lefts bs y) a) p fa) (subst (λ y. Sp es n (rights bs y) c) p fc) in
+            let r′ = subst (λ y. Sp es n y (node y (left-under s i a) (right-under s i c))) (sym p) r in
+            subst (λ y. Sp es n x y) (sym (cond-true _ _ _ (eq-eqb k j p))) (w .0, w .1, r′ .2, r′ .3)
+        | inr d ↦
+            let di : k ≡ i → ⊥ = λ p. omega (arith, own k a c, ap (λ y. count y (node k a c)) p) in
+            let e = o k di d in
+            let sa = hanging s ei ej o (lefts bs k) a (omega (arith, parts-le j k a c)) za (w .2) in
+            let sc = hanging s ei ej o (rights bs k) c (omega (arith, parts-le j k a c)) zc (w .3) in
+            subst (λ y. Sp es n x y) (sym (cond-false _ _ _ (ne-eqb k j d)))
+            (w .0, w .1, subst (λ y. Sp es n y (hang s i j a)) (sym (ap (λ b. b .left) e)) sa, subst (λ y. Sp es n y (hang s i j c)) (sym (ap (λ b. b .right) e)) sc)
+      ]
 
 below-part : {X : Type 0} (f : Block → X) → ((l r : ℕ) (b : Block) → f (hung l r b) ≡ f b) → (s : Side) (c b : Block) → f (below-by s c b) ≡ f b
 below-part f h Left c b = h _ _ b
@@ -76,14 +83,15 @@ module _ (i j : ℕ) (s : Side) (bs : List Block) where
       → (k : ℕ) → f (at (under i j s bs) k) ≡ f (at bs k)
   under-part f h g k =
       let first : (m : ℕ) → f (at (set bs i (below-by s (at bs j) (at bs i))) m) ≡ f (at bs m)
-            = λ m. set-part f bs i m (below-by s (at bs j) (at bs i)) (below-part f h s (at bs j) (at bs i)) in
+      = λ m. set-part f bs i m (below-by s (at bs j) (at bs i)) (below-part f h s (at bs j) (at bs i)) in
       set-part f (set bs i (below-by s (at bs j) (at bs i))) j k (above-by s i (at bs j)) (above-part f g s i (at bs j) ∙ sym (first j)) ∙ first k
 
   under-keeps : Keeps bs (under i j s bs)
   under-keeps = record {
-      long = under-long;
-      sizes = under-part (λ b. b .size) (λ l r b. refl) (λ l r b. refl);
-      letters = under-part (λ b. b .letter) (λ l r b. refl) (λ l r b. refl) }
+    long = under-long;
+    sizes = under-part (λ b. b .size) (λ l r b. refl) (λ l r b. refl);
+    letters = under-part (λ b. b .letter) (λ l r b. refl) (λ l r b. refl);
+  }
 
   module _ (hi : i < length bs) (hj : j < length bs) (d : i ≡ j → ⊥) where
     at-under-j : at (under i j s bs) j ≡ above-by s i (at bs j)
@@ -97,8 +105,9 @@ module _ (i j : ℕ) (s : Side) (bs : List Block) where
 
     under-present : (m : ℕ) → (m ≡ i → ⊥) → at (under i j s bs) m .present ≡ at bs m .present
     under-present m a = elim (cases-eq m j) [
-          inl e ↦ ap (λ q. at (under i j s bs) q .present) e ∙ ap (λ b. b .present) at-under-j ∙ above-part (λ b. b .present) (λ l r b. refl) s i (at bs j) ∙ ap (λ q. at bs q .present) (sym e)
-        | inr b ↦ ap (λ b. b .present) (at-under m a b) ]
+      | inl e ↦ ap (λ q. at (under i j s bs) q .present) e ∙ ap (λ b. b .present) at-under-j ∙ above-part (λ b. b .present) (λ l r b. refl) s i (at bs j) ∙ ap (λ q. at bs q .present) (sym e)
+      | inr b ↦ ap (λ b. b .present) (at-under m a b)
+    ]
 
     under-holds : (root : ℕ) (t : Tree) → count i t ≡ 0 → count j t ≡ 1 → Holds bs root t → Holds (under i j s bs) root (hang s i j t)
     under-holds root t zi oj h =
@@ -109,14 +118,16 @@ module _ (i j : ℕ) (s : Side) (bs : List Block) where
           few = omega (arith, under-long);
           spelt = subst (λ k. Sp es k root (hang s i j t)) (sym under-long) w;
           once = λ m. elim (cases-eq m i) [
-              inl e ↦
+            | inl e ↦
                 let q = hang-count s i j i t oj in
                 let o : count i (node i empty empty) ≡ 1 = omega (arith, own i empty empty, no-count i) in
                 let p : at es m .present ≡ true = ap (λ y. at es y .present) e ∙ ap (λ b. b .present) at-under-i ∙ below-present s (at bs j) (at bs i) in
                 ap (λ y. count y (hang s i j t)) e ∙ q ∙ omega (arith, o, zi, cond-true {A = ℕ} (at es m .present) 1 0 p)
             | inr a ↦
                 let o : count m (node i empty empty) ≡ 0 = omega (arith, others m i empty empty a, no-count m) in
-                hang-count s i j m t oj ∙ omega (arith, o) ∙ h .once m ∙ ap {B = ℕ} (λ b. cond b 1 0) (sym (under-present m a)) ] }
+                hang-count s i j m t oj ∙ omega (arith, o) ∙ h .once m ∙ ap {B = ℕ} (λ b. cond b 1 0) (sym (under-present m a))
+          ];
+        }
 
 -- alone
 no-root-empty : (bs : List Block) (root : ℕ) (t : Tree) → root ≡ 65535 → Holds bs root t → t ≡ empty
@@ -129,9 +140,10 @@ root-not-empty bs root t ne h e = ne (subst (λ u. Sp bs (length bs) root u) e (
 module _ (i : ℕ) (bs : List Block) where
   alone-keeps : Keeps bs (alone i bs)
   alone-keeps = record {
-      long = length-set bs i _;
-      sizes = λ k. set-part (λ b. b .size) bs i k (hung 65535 65535 (at bs i)) refl;
-      letters = λ k. set-part (λ b. b .letter) bs i k (hung 65535 65535 (at bs i)) refl }
+    long = length-set bs i _;
+    sizes = λ k. set-part (λ b. b .size) bs i k (hung 65535 65535 (at bs i)) refl;
+    letters = λ k. set-part (λ b. b .letter) bs i k (hung 65535 65535 (at bs i)) refl;
+  }
 
   alone-holds : (root : ℕ) → i < length bs → Holds bs root empty → Holds (alone i bs) i (node i empty empty)
   alone-holds root hi h =
@@ -143,12 +155,14 @@ module _ (i : ℕ) (bs : List Block) where
         few = omega arith;
         spelt = (refl, omega arith, ap (λ b. b .left) here, ap (λ b. b .right) here);
         once = λ m. elim (cases-eq m i) [
-            inl q ↦
+          | inl q ↦
               let p : at es m .present ≡ true = ap (λ y. at es y .present) q ∙ ap (λ b. b .present) here in
               ap (λ y. count y (node i empty empty)) q ∙ omega (arith, own i empty empty, no-count i, cond-true {A = ℕ} (at es m .present) 1 0 p)
           | inr a ↦
               let p : at es m .present ≡ at bs m .present = ap (λ b. b .present) (getD-set-other bs i m (hung 65535 65535 (at bs i)) blank a) in
-              omega (arith, others m i empty empty a, no-count m) ∙ sym (no-count m) ∙ h .once m ∙ ap {B = ℕ} (λ b. cond b 1 0) (sym p) ] }
+              omega (arith, others m i empty empty a, no-count m) ∙ sym (no-count m) ∙ h .once m ∙ ap {B = ℕ} (λ b. cond b 1 0) (sym p)
+        ];
+      }
 
 -- the whole edit
 module _ (i j : ℕ) (s : Side) (root : ℕ) (bs : List Block) where
@@ -157,6 +171,7 @@ module _ (i j : ℕ) (s : Side) (root : ℕ) (bs : List Block) where
     where
       same : Keeps bs bs
       same = record { long = refl; sizes = λ k. refl; letters = λ k. refl }
+
       go : (u v w : Bool) → Keeps bs (cond u (cond v (alone i bs) (cond w (under i j s bs) bs)) bs)
       go true true w = alone-keeps i bs
       go true false true = under-keeps i j s bs
@@ -186,19 +201,20 @@ module _ (i j : ℕ) (s : Side) (root : ℕ) (bs : List Block) where
 
   put-holds : (t : Tree) → Holds bs root t → Fits-in i j bs t → Holds (put i j s root bs) (put-root i root bs) (put-in i j s t)
   put-holds t h f = elim (cases-eq root 65535) [
-        inl e ↦
-          let z = no-root-empty bs root t e h in
-          let a = put-alone-is (f .known) e in
-          let r = alone-holds i bs root (f .known) (subst (Holds bs root) z h) in
-          subst (λ x. Holds (put i j s root bs) (put-root i root bs) x) (sym (put-in-alone t z))
-            (subst (λ x. Holds (put i j s root bs) x (node i empty empty)) (a .1) (subst (λ x. Holds x i (node i empty empty)) (a .0) r))
-      | inr ne ↦
-          let p = f .under-present (root-not-empty bs root t ne h) in
-          let hj = in-tree-within h j p in
-          let d : i ≡ j → ⊥ = λ e. not-in i j t (f .absent) p (sym e) in
-          let r = under-holds i j s bs (f .known) hj d root t (f .absent) (in-tree-once h j p) h in
-          subst (λ x. Holds (put i j s root bs) (put-root i root bs) x) (sym (put-in-hang i j s t p))
-            (subst (λ x. Holds (put i j s root bs) x (hang s i j t)) (put-root-stays (f .known) ne) (subst (λ x. Holds x root (hang s i j t)) (put-under-is (f .known) ne hj) r)) ]
+    | inl e ↦
+        let z = no-root-empty bs root t e h in
+        let a = put-alone-is (f .known) e in
+        let r = alone-holds i bs root (f .known) (subst (Holds bs root) z h) in
+        subst (λ x. Holds (put i j s root bs) (put-root i root bs) x) (sym (put-in-alone t z))
+        (subst (λ x. Holds (put i j s root bs) x (node i empty empty)) (a .1) (subst (λ x. Holds x i (node i empty empty)) (a .0) r))
+    | inr ne ↦
+        let p = f .under-present (root-not-empty bs root t ne h) in
+        let hj = in-tree-within h j p in
+        let d : i ≡ j → ⊥ = λ e. not-in i j t (f .absent) p (sym e) in
+        let r = under-holds i j s bs (f .known) hj d root t (f .absent) (in-tree-once h j p) h in
+        subst (λ x. Holds (put i j s root bs) (put-root i root bs) x) (sym (put-in-hang i j s t p))
+        (subst (λ x. Holds (put i j s root bs) x (hang s i j t)) (put-root-stays (f .known) ne) (subst (λ x. Holds x root (hang s i j t)) (put-under-is (f .known) ne hj) r))
+  ]
 
   -- where i is no row nothing changes
   pub put-out : length bs ≤ i → (bs ≡ put i j s root bs) × (root ≡ put-root i root bs)
@@ -207,6 +223,7 @@ module _ (i j : ℕ) (s : Side) (root : ℕ) (bs : List Block) where
   -- what the table with i keeps and holds
   pub put-gives : (cs : List Block) (r : ℕ) → cs ≡ put i j s root bs → r ≡ put-root i root bs
       → Keeps bs cs × ((t : Tree) → Holds bs root t → Fits-in i j bs t → Holds cs r (put-in i j s t))
-  put-gives cs r e f =
-      (subst (Keeps bs) (sym e) put-keeps,
-        λ t h w. subst (λ x. Holds x r (put-in i j s t)) (sym e) (subst (λ x. Holds (put i j s root bs) x (put-in i j s t)) (sym f) (put-holds t h w)))
+  put-gives cs r e f = (
+    subst (Keeps bs) (sym e) put-keeps,
+    λ t h w. subst (λ x. Holds x r (put-in i j s t)) (sym e) (subst (λ x. Holds (put i j s root bs) x (put-in i j s t)) (sym f) (put-holds t h w)),
+  )

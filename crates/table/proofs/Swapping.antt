@@ -44,9 +44,10 @@ module _ (i j : ℕ) (bs : List Block) where
 
   crossed-keeps : Keeps bs (crossed i j renamed)
   crossed-keeps = record {
-      long = crossed-long;
-      sizes = crossed-part (λ b. b .size) (λ l r b. refl);
-      letters = crossed-part (λ b. b .letter) (λ l r b. refl) }
+    long = crossed-long;
+    sizes = crossed-part (λ b. b .size) (λ l r b. refl);
+    letters = crossed-part (λ b. b .letter) (λ l r b. refl);
+  }
 
   swapped-keeps : Keeps bs (swapped i j bs)
   swapped-keeps = go (both-within i j bs)
@@ -70,18 +71,20 @@ module _ (i j : ℕ) (bs : List Block) where
         let ei = at-renamed i hi in
         let ej = at-renamed j hj in
         elim (cases-eq k j) [
-          inl e ↦
-            let o = exchange-second i j k e in
-            rw (o, e) (getD-set-same (set renamed i x) j y blank jl ∙ rw (ei, ej))
-        | inr d ↦
-            elim (cases-eq k i) [
-              inl e ↦
-                let o = exchange-first i j k e in
-                let dd : i ≢ j = λ p. d (e ∙ p) in
-                rw (o, e) (getD-set-other (set renamed i x) j i y blank dd ∙ getD-set-same renamed i x blank il ∙ rw (ei, ej))
-            | inr c ↦
-                let o = exchange-third i j k c d in
-                rw o (getD-set-other (set renamed i x) j k y blank d ∙ getD-set-other renamed i k x blank c ∙ at-renamed k h) ] ]
+          | inl e ↦
+              let o = exchange-second i j k e in
+              rw (o, e) (getD-set-same (set renamed i x) j y blank jl ∙ rw (ei, ej))
+          | inr d ↦
+              elim (cases-eq k i) [
+                | inl e ↦
+                    let o = exchange-first i j k e in
+                    let dd : i ≢ j = λ p. d (e ∙ p) in
+                    rw (o, e) (getD-set-other (set renamed i x) j i y blank dd ∙ getD-set-same renamed i x blank il ∙ rw (ei, ej))
+                | inr c ↦
+                    let o = exchange-third i j k c d in
+                    rw o (getD-set-other (set renamed i x) j k y blank d ∙ getD-set-other renamed i k x blank c ∙ at-renamed k h)
+              ]
+        ]
 
     crossed-links : (k : ℕ) → k < length bs
         → (lefts (crossed i j renamed) (exchange i j k) ≡ exchange i j (lefts bs k)) × (rights (crossed i j renamed) (exchange i j k) ≡ exchange i j (rights bs k))
@@ -94,11 +97,13 @@ module _ (i j : ℕ) (bs : List Block) where
     exchanged-present : at bs i .present ≡ true → at bs j .present ≡ true → (k : ℕ) → at bs (exchange i j k) .present ≡ at bs k .present
     exchanged-present pi pj k =
         elim (cases-eq k j) [
-          inl e ↦ rw (exchange-second i j k e, e) (pi ∙ sym pj)
-        | inr d ↦
-            elim (cases-eq k i) [
-              inl e ↦ rw (exchange-first i j k e, e) (pj ∙ sym pi)
-            | inr c ↦ rw (exchange-third i j k c d) ] ]
+          | inl e ↦ rw (exchange-second i j k e, e) (pi ∙ sym pj)
+          | inr d ↦
+              elim (cases-eq k i) [
+                | inl e ↦ rw (exchange-first i j k e, e) (pj ∙ sym pi)
+                | inr c ↦ rw (exchange-third i j k c d)
+              ]
+        ]
 
     crossed-holds : (root : ℕ) (t : Tree) → at bs i .present ≡ true → at bs j .present ≡ true
         → Holds bs root t → Holds (crossed i j renamed) (exchange i j root) (swap i j t)
@@ -107,9 +112,10 @@ module _ (i j : ℕ) (bs : List Block) where
         record {
           few = omega (arith, crossed-long);
           spelt = subst (λ m. Spells (lefts (crossed i j renamed)) (rights (crossed i j renamed)) m (exchange i j root) (swap i j t)) (sym crossed-long)
-            (swap-spells (lefts bs) (rights bs) (lefts (crossed i j renamed)) (rights (crossed i j renamed)) (length bs) i j hi hj (omega arith) crossed-links root t (h .spelt));
+              (swap-spells (lefts bs) (rights bs) (lefts (crossed i j renamed)) (rights (crossed i j renamed)) (length bs) i j hi hj (omega arith) crossed-links root t (h .spelt));
           once = λ k. swap-count i j k t ∙ h .once (exchange i j k)
-            ∙ ap {B = ℕ} (λ b. cond b 1 0) (exchanged-present pi pj k ∙ sym (crossed-part (λ b. b .present) (λ l r b. refl) k)) }
+              ∙ ap {B = ℕ} (λ b. cond b 1 0) (exchanged-present pi pj k ∙ sym (crossed-part (λ b. b .present) (λ l r b. refl) k));
+        }
 
     both-true : both-within i j bs ≡ true
     both-true = and-from _ _ (lt-ltb i (length bs) hi) (lt-ltb j (length bs) hj)
@@ -127,7 +133,7 @@ module _ (i j : ℕ) (bs : List Block) where
       let hj = in-tree-within h j (b .1) in
       let r = crossed-holds hi hj root t (in-tree-present h i (b .0)) (in-tree-present h j (b .1)) h in
       subst (λ x. Holds x (cond (both-within i j bs) (exchange i j root) root) (swap i j t)) (sym (cond-true _ _ _ (both-true hi hj)))
-        (subst (λ x. Holds (crossed i j renamed) x (swap i j t)) (swapped-root hi hj root) r)
+      (subst (λ x. Holds (crossed i j renamed) x (swap i j t)) (swapped-root hi hj root) r)
 
   not-both : (length bs ≤ i) ⊎ (length bs ≤ j) → both-within i j bs ≡ false
   not-both (inl h) = and-left _ _ (le-ltb i (length bs) h)
@@ -140,6 +146,7 @@ module _ (i j : ℕ) (bs : List Block) where
   -- what the table after the swap keeps and holds
   pub swapped-gives : (root : ℕ) (cs : List Block) (r : ℕ) → cs ≡ swapped i j bs → r ≡ cond (both-within i j bs) (exchange i j root) root
       → Keeps bs cs × ((t : Tree) → Holds bs root t → has-both i j t → Holds cs r (swap i j t))
-  swapped-gives root cs r e f =
-      (subst (Keeps bs) (sym e) swapped-keeps,
-        λ t h b. subst (λ x. Holds x r (swap i j t)) (sym e) (subst (λ x. Holds (swapped i j bs) x (swap i j t)) (sym f) (swapped-holds root t h b)))
+  swapped-gives root cs r e f = (
+    subst (Keeps bs) (sym e) swapped-keeps,
+    λ t h b. subst (λ x. Holds x r (swap i j t)) (sym e) (subst (λ x. Holds (swapped i j bs) x (swap i j t)) (sym f) (swapped-holds root t h b)),
+  )

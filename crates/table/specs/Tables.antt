@@ -75,10 +75,10 @@ unfoldable pub lowered : ℕ → ℕ → ℕ → List Block → List Block
 lowered zero l j bs = bs
 lowered (suc f) l j bs =
     cond (ltb j (length bs))
-      (cond (eqb (at bs j .right) 65535) (set bs j (linked l (at bs j .left) (at bs j)))
-        (cond (eqb (at bs j .left) 65535) (set bs j (linked l (at bs j .right) (at bs j)))
-          (lowered f (at bs j .left) (at bs j .right) (set bs j (linked l (at bs j .right) (at bs j))))))
-      bs
+    (cond (eqb (at bs j .right) 65535) (set bs j (linked l (at bs j .left) (at bs j)))
+    (cond (eqb (at bs j .left) 65535) (set bs j (linked l (at bs j .right) (at bs j)))
+    (lowered f (at bs j .left) (at bs j .right) (set bs j (linked l (at bs j .right) (at bs j))))))
+    bs
 
 -- what takes the place of a block with the children l and r
 abbrev pub heir : ℕ → ℕ → ℕ

@@ -87,7 +87,11 @@ fn kept_at_foot(blocks: &[Block], root: u16, side: Side, i: u16) -> bool
 {
     let foot = branch_end(blocks, root, side);
     let turned = across(side);
-    if is_childless(blocks, foot, turned, side) { on_branch(blocks, foot, turned, i) } else { false }
+    if is_childless(blocks, foot, turned, side) {
+        on_branch(blocks, foot, turned, i)
+    } else {
+        false
+    }
 }
 
 // Whether block i keeps that letter.

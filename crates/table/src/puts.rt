@@ -30,11 +30,21 @@ fn put_under(blocks: &mut [Block], i: u16, j: u16, side: Side)
     let c = blocks[j as usize];
     match side {
         Side::Left => {
-            blocks[i as usize] = Block { left: c.left, right: NONE, present: true, ..b };
+            blocks[i as usize] = Block {
+                left: c.left,
+                right: NONE,
+                present: true,
+                ..b
+            };
             blocks[j as usize] = Block { left: i, ..c };
         }
         Side::Right => {
-            blocks[i as usize] = Block { left: NONE, right: c.right, present: true, ..b };
+            blocks[i as usize] = Block {
+                left: NONE,
+                right: c.right,
+                present: true,
+                ..b
+            };
             blocks[j as usize] = Block { right: i, ..c };
         }
     }

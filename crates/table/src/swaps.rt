@@ -25,7 +25,15 @@ pub fn swap_places(blocks: &mut [Block], root: u16, i: u16, j: u16) -> u16
     rename_links(blocks, &exchange);
     let a = blocks[i as usize];
     let b = blocks[j as usize];
-    blocks[i as usize] = Block { left: b.left, right: b.right, ..a };
-    blocks[j as usize] = Block { left: a.left, right: a.right, ..b };
+    blocks[i as usize] = Block {
+        left: b.left,
+        right: b.right,
+        ..a
+    };
+    blocks[j as usize] = Block {
+        left: a.left,
+        right: a.right,
+        ..b
+    };
     exchange.rename(root)
 }

@@ -24,7 +24,11 @@ fn lower(blocks: &mut [Block], first: u16, start: u16)
         }
         let b = blocks[under as usize];
         if b.right == NONE {
-            blocks[under as usize] = Block { left: hung, right: b.left, ..b };
+            blocks[under as usize] = Block {
+                left: hung,
+                right: b.left,
+                ..b
+            };
             return;
         }
         blocks[under as usize] = Block { left: hung, ..b };
@@ -37,17 +41,18 @@ fn lower(blocks: &mut [Block], first: u16, start: u16)
 }
 
 // Joins the two subtrees of a block that is taken out, and answers the root of what takes its place.
-fn join(blocks: &mut [Block], l: u16, r: u16) -> u16
-    ensures value { λ t. ⌜ t ≡ heir l r ⌝ }
-    ensures after { λ _. ⌜ now (blocks .exit) ≡ joined l r (now (blocks .entry)) ⌝ }
+fn join(blocks: &mut [Block], left: u16, right: u16) -> u16
+    ensures value { λ t. ⌜ t ≡ heir left right ⌝ }
+    ensures after { λ _. ⌜ now (blocks .exit) ≡ joined left right (now (blocks .entry)) ⌝ }
 {
-    if r == NONE {
-        return l;
+    if right == NONE {
+        return left;
     }
-    if l != NONE {
-        lower(blocks, l, r);
+    let raised = right;
+    if left != NONE {
+        lower(blocks, left, raised);
     }
-    r
+    raised
 }
 
 // Takes i out of the tree, and answers the tree's root.

@@ -24,9 +24,11 @@ loop-step-again c =
     let l = c .loop-step in
     let s = c .args .side in
     let bs = c .args .blocks .now in
-    let e : length bs - l .step ≡ suc (length bs - (l .step + 1)) = omega arith in
-    (ap (λ k. childless (c .args .other) bs (branch s bs (length bs - (l .step + 1)) k)) (c .child-of-link .ensures)
-      ∙ sym (childless-more s bs (c .args .other) _ _ (l .link) e (c .if-link-blocks .left) (sym (c .child-of .ensures) ∙ c .if-child-of .left)) ∙ l .inv .0, search needs)
+    let e : length bs - l .step ≡ suc (length bs - (l .step + 1)) = omega arith in (
+      ap (λ k. childless (c .args .other) bs (branch s bs (length bs - (l .step + 1)) k)) (c .child-of-link .ensures)
+          ∙ sym (childless-more s bs (c .args .other) _ _ (l .link) e (c .if-link-blocks .left) (sym (c .child-of .ensures) ∙ c .if-child-of .left)) ∙ l .inv .0,
+      search needs,
+    )
 
 pub returns : need.returns
 returns c =

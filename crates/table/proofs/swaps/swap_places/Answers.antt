@@ -10,7 +10,7 @@ pub returns-then-i-blocks : need.returns-then-i-blocks
 returns-then-i-blocks c =
     let bs = c .args .blocks .now in
     let past : (length bs ≤ c .args .i) ⊎ (length bs ≤ c .args .j)
-          = elim (c .then-i-blocks .came) [ then-i-blocks·by·then-i-blocks w ↦ inl (w .if-i-blocks .taken) | then-i-blocks·by·else-i-blocks·then-j-blocks w ↦ inr (w .if-j-blocks .taken) ] in
+    = elim (c .then-i-blocks .came) [ then-i-blocks·by·then-i-blocks w ↦ inl (w .if-i-blocks .taken) | then-i-blocks·by·else-i-blocks·then-j-blocks w ↦ inr (w .if-j-blocks .taken) ] in
     let e = swapped-out (c .args .i) (c .args .j) bs (c .args .root) past in
     let g = swapped-gives (c .args .i) (c .args .j) bs (c .args .root) bs (c .args .root) (e .0) (e .1) in
     record { after = e .0; root = e .1; keeps = g .0; tree = g .1 }

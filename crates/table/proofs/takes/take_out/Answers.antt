@@ -18,8 +18,8 @@ returns c =
     let bs = c .args .blocks .now in
     let hi = c .if-i-blocks .left in
     let led : c .rename-links .last .blocks ≡ map (relinked (point i (heir (at bs i .left) (at bs i .right)))) (joined (at bs i .left) (at bs i .right) bs)
-          = c .rename-links .ensures ∙ ap (λ t. map (relinked (point i t)) (c .join-t .last .blocks)) (c .join-t .ensures .value)
-            ∙ ap (map (relinked (point i (heir (at bs i .left) (at bs i .right))))) (c .join-t .ensures .after) in
+    = c .rename-links .ensures ∙ ap (λ t. map (relinked (point i t)) (c .join-t .last .blocks)) (c .join-t .ensures .value)
+    ∙ ap (map (relinked (point i (heir (at bs i .left) (at bs i .right))))) (c .join-t .ensures .after) in
     let e = ap (λ cs. set cs i (cleared (at cs i))) led ∙ taken-is i bs hi in
     let f = c .rename .ensures ∙ ap (λ t. point i t (c .args .root)) (c .join-t .ensures .value) ∙ taken-root-is i bs hi (c .args .root) in
     let g = taken-gives i bs (c .args .root) _ _ e f in

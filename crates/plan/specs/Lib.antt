@@ -1,0 +1,5 @@
+pub mod Sound
+pub mod Meaning
+pub mod Rows
+pub mod Reports
+pub mod Calls

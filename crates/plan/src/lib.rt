@@ -1,0 +1,15 @@
+// A plan of blocks: load, report, the five edits, and trials.
+mod checks;
+mod edits;
+mod memory;
+mod plans;
+mod reports;
+mod rows;
+mod states;
+mod tables;
+mod tells;
+mod trials;
+
+pub use reports::Report;
+pub use states::Settled;
+pub use states::Tried;

@@ -1,0 +1,35 @@
+use mathlib.Core.Path.{refl}
+use Rattle.script.specs.Lines.{first-line, behind-line}
+use Rattle.script.specs.Numbers.{spelt-after}
+use Rattle.script.specs.Words.{words}
+use Rattle.script.proofs.read.readings.Needs as need
+
+pub returns : need.returns
+unfolding words spelt-after first-line behind-line
+returns c =
+    record {
+      blank-line = refl;
+      comment-line = refl;
+      block-said = refl;
+      size-said = refl;
+      letter-said = refl;
+      pair-said = refl;
+      load-said = refl;
+      turn-tested = refl;
+      swap-tested = refl;
+      out-begun = refl;
+      in-begun = refl;
+      move-begun = refl;
+      keep-said = refl;
+      undo-said = refl;
+      report-said = refl;
+      other-name = refl;
+      ten-digits = refl;
+      no-such-number = refl;
+      too-much-walk = refl;
+      long-letter = refl;
+      too-few = refl;
+      too-many = refl;
+      cut-at-lf = (refl, refl);
+      cut-at-end = (refl, refl);
+    }

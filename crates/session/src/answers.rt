@@ -1,0 +1,22 @@
+// What a call answered.
+use plan::Report;
+use rules::refusals::Refusal;
+
+#[derive(Clone, Copy)]
+pub enum Answer {
+    Loaded(usize),
+    Allowed,
+    Begun,
+    BegunEmpty,
+    Kept(u32),
+    Undone(u32),
+    Reported(Report),
+    Refused(Refusal),
+    NotAllowed,
+}
+
+// A report as it is printed.
+#[derive(Clone, Copy)]
+pub struct ReportLine {
+    pub report: Report,
+}

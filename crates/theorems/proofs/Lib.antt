@@ -1,0 +1,10 @@
+pub mod Trees
+pub mod NotRefused
+pub mod Passed
+pub mod Loaded
+pub mod Decided
+pub mod Books
+pub mod Sounding
+pub mod Following
+pub mod LeftOut
+pub mod Pruning
