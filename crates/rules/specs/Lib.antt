@@ -7,3 +7,4 @@ pub mod Letters
 pub mod Loads
 pub mod Packing
 pub mod Book
+pub mod Skylines
