@@ -8,7 +8,9 @@ use Rattle.std.specs.declared.option.Option.the-variants.{Some, None}
 use Rattle.rules.specs.declared.refusals.Refusal.{Refusal}
 use Rattle.rules.specs.Plans.{Plan}
 use Rattle.rules.specs.Book.{Call, Settles, Tries}
+use Rattle.table.specs.declared.blocks.Block.{Block}
 use Rattle.plan.specs.declared.tables.Table.{Table}
+use Rattle.plan.specs.declared.plans.Plan.{Plan as Held}
 use Rattle.plan.specs.declared.states.Settled.{Settled}
 use Rattle.plan.specs.declared.states.Tried.{Tried}
 use Rattle.plan.specs.Sound.{plan-of}
@@ -16,6 +18,13 @@ use Rattle.plan.specs.Sound.{plan-of}
 -- the plan that a table stands for
 abbrev pub meant : Table → Plan
 meant t = plan-of (vec-items (t .blocks)) (t .root)
+
+-- the rows and the root of a plan's table
+abbrev pub rows : Held → List Block
+rows p = vec-items (p .table .blocks)
+
+abbrev pub root-of : Held → ℕ
+root-of p = p .table .root
 
 -- a settled plan, and how many trials that were not empty it has kept since load
 abbrev pub settled-plan : Settled → Plan

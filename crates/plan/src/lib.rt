@@ -5,11 +5,13 @@ mod memory;
 mod plans;
 mod reports;
 mod rows;
+mod rows_of;
 mod states;
 mod tables;
 mod tells;
 mod trials;
 
+pub use plans::Plan;
 pub use reports::Report;
 pub use states::Settled;
 pub use states::Tried;

@@ -8,7 +8,7 @@ use crate::tables::Table;
 
 #[derive(Drop)]
 pub struct Plan {
-    pub table: Table,
+    pub(crate) table: Table,
     ghost sound: { Sound (vec-items (table .blocks)) (table .root) },
     ghost fit: { all-fit (vec-items (table .blocks)) ≡ true },
 }
