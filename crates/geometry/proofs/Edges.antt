@@ -41,7 +41,7 @@ module _ (sizes : List Size) (k : ℕ) (l r : Tree) (x : ℕ) (d : Distinct (blo
     | inr h ↦ h
   ]
 
-root-among : (t : Tree) (i : ℕ) → Root t i → Among i (blocks t)
+pub root-among : (t : Tree) (i : ℕ) → Root t i → Among i (blocks t)
 root-among empty i h = absurd h
 root-among (node k l r) i e = inl e
 
@@ -51,7 +51,7 @@ root-left sizes empty x d s m h = absurd m
 root-left sizes (node k l r) x d s m e = spot-at-root sizes k l r x d s m e
 
 -- a child and its parent stand in the tree
-child-among : (a : Side) (t : Tree) (i j : ℕ) → Child a t i j → Among i (blocks t) × Among j (blocks t)
+pub child-among : (a : Side) (t : Tree) (i j : ℕ) → Child a t i j → Among i (blocks t) × Among j (blocks t)
 child-among a empty i j c = absurd c
 child-among a (node k l r) i j (inl (e, h)) = (inl e, inr (go a h))
   where
@@ -117,7 +117,7 @@ edges-of-children p w = record {
   right = λ q r m n c. let f = packed-from p q m in placed-child p w Right q r f n c ∙ f .left-is;
 }
 
-rightmost-in : (t : Tree) (i : ℕ) → Among i (rightmost t) → Among i (blocks t)
+pub rightmost-in : (t : Tree) (i : ℕ) → Among i (rightmost t) → Among i (blocks t)
 rightmost-in empty i m = m
 rightmost-in (node j l r) i (inl e) = inl e
 rightmost-in (node j l r) i (inr m) = inr (among-right i (blocks l) (blocks r) (rightmost-in r i m))

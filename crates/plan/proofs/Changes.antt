@@ -1,11 +1,11 @@
 -- The plan that a changed table stands for.
 use mathlib.Core.Path.{_≡_, refl, sym, ap, subst, _∙_}
 use mathlib.Core.List.{List, [], _∷_, map}
-use mathlib.Core.Bool.{Bool, true, false, cond, _&&_}
+use mathlib.Core.Bool.{true, cond}
 use mathlib.Core.Logic.{_⊎_, inl, inr}
 use Prim.Native.Nat.{ℕ, zero, suc, _<_, _≤_}
 use native.Mathlib.Omega.{arith}
-use lib.ListN.{length, getD, set}
+use lib.ListN.{length, set}
 use Rattle.std.proofs.shelf.Tests.{and-parts, and-from}
 use Rattle.std.proofs.shelf.Lists.{length-set, getD-map, map-set, set-getD}
 use Rattle.std.specs.declared.option.Option.the-variants.{None}
@@ -23,8 +23,8 @@ use Rattle.table.proofs.Rows.{set-part}
 use Rattle.rules.proofs.Spelling.{frame}
 use Rattle.plan.specs.Sound.{table-tree, Sound, all-fit, sizes-fit, plan-of}
 use Rattle.plan.specs.Rows.{turned-row}
-use Rattle.plan.proofs.Sounds.{holds, tree-is, sound, plan-same, Changed, changed, count-is}
-use Rattle.theorems.proofs.Passed.{There, Room, absent-passed, pair-passed, put-passed}
+use Rattle.plan.proofs.Sounds.{holds, tree-is, sound, plan-same, changed, count-is}
+use Rattle.theorems.proofs.Passed.{There, absent-passed, pair-passed, put-passed}
 
 -- the plan after an edit, and that the table is sound again
 pub record Done (p : Plan) (bs : List Block) (root : ℕ) : Type 0 where

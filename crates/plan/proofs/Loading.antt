@@ -1,29 +1,27 @@
 -- The rows of an accepted load hold the plan that was given.
 use mathlib.Core.Path.{_≡_, refl, sym, ap, subst, _∙_}
 use mathlib.Core.List.{List, [], _∷_, map}
-use mathlib.Core.Bool.{Bool, true, false, cond}
+use mathlib.Core.Bool.{true, cond}
 use mathlib.Core.Logic.{inl, inr}
-use Prim.Native.Nat.{ℕ, zero, suc, _<_, _≤_}
+use Prim.Native.Nat.{ℕ, suc, _<_}
 use native.Mathlib.Omega.{arith}
 use lib.Dec.{ltb}
-use lib.ListN.{length, getD}
-use Rattle.std.specs.Iters.{counting}
+use lib.ListN.{length}
 use Rattle.std.specs.declared.option.Option.the-variants.{None}
-use Rattle.std.proofs.shelf.Tests.{cases-lt, lt-ltb, le-ltb, and-from, cond-true, cond-false}
+use Rattle.std.proofs.shelf.Tests.{cases-lt, lt-ltb, le-ltb, and-from, cond-false}
 use Rattle.std.proofs.shelf.Lists.{length-map, getD-map, getD-past, ext-getD}
 use Rattle.std.proofs.shelf.Counted.{length-map-counting, getD-map-counting}
 use Rattle.rules.specs.declared.blocks.Size.{Size}
-use Rattle.rules.specs.declared.blocks.Children.{Children}
 use Rattle.rules.specs.declared.blocks.Letter.the-variants.{Free}
-use Rattle.rules.specs.Trees.{Tree, count}
+use Rattle.rules.specs.Trees.{count}
 use Rattle.rules.specs.Links.{left-of, right-of, tree-of, Spells}
-use Rattle.rules.specs.Plans.{Plan, size-at, size-fits}
+use Rattle.rules.specs.Plans.{size-at, size-fits}
 use Rattle.rules.specs.Loads.{Given, load-refusal, given-plan, letter-or-free}
 use Rattle.rules.proofs.Spelling.{frame}
 use Rattle.loading.proofs.Accepting.{Accepted, accepted-tree}
 use Rattle.table.specs.declared.blocks.Block.{Block}
 use Rattle.table.specs.Tables.{at, blank, lefts, rights, Holds}
-use Rattle.plan.specs.Sound.{Sound, all-fit, sizes-fit, plan-of}
+use Rattle.plan.specs.Sound.{sizes-fit, plan-of}
 use Rattle.plan.specs.Rows.{row-at, loaded-rows}
 use Rattle.plan.proofs.Sounds.{sound, tree-is, plan-same}
 use Rattle.plan.proofs.Changes.{Done}

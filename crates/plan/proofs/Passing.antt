@@ -3,12 +3,10 @@ use mathlib.Core.Path.{_≡_, refl, sym, ap, _∙_}
 use mathlib.Core.Bool.{Bool, true, false, cond, not}
 use Prim.Native.Nat.{ℕ, _<_, _≤_}
 use native.Mathlib.Omega.{arith}
-use lib.Dec.{ltb, leb}
 use Rattle.std.proofs.shelf.Tests.{lt-leb, lt-ltb, le-ltb, cond-false}
-use Rattle.std.specs.declared.option.Option.{Option}
 use Rattle.std.specs.declared.option.Option.the-variants.{None}
 use Rattle.rules.specs.declared.edits.Edit.the-variants.{TakeOut}
-use Rattle.rules.specs.Trees.{count, take-out}
+use Rattle.rules.specs.Trees.{count}
 use Rattle.rules.specs.Plans.{Plan, block-count, present, bare}
 use Rattle.rules.specs.Edits.{edited, absent-refusal, pair-refusal, put-refusal}
 use Rattle.rules.proofs.Counts.{take-out-others, take-out-own}

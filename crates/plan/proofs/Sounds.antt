@@ -1,15 +1,15 @@
 -- A sound table and the tree that it holds.
-use mathlib.Core.Path.{_≡_, refl, sym, ap, subst, _∙_}
+use mathlib.Core.Path.{_≡_, sym, ap, subst, _∙_}
 use mathlib.Core.List.{List, [], map}
 use mathlib.Core.Bool.{Bool, true, false, cond}
-use Prim.Native.Nat.{ℕ, suc, _+_, _<_, _≤_}
+use Prim.Native.Nat.{ℕ, _<_, _≤_}
 use native.Mathlib.Omega.{arith}
 use lib.Dec.{eqb, ltb}
-use lib.ListN.{length, getD}
+use lib.ListN.{length}
 use Rattle.std.proofs.shelf.Tests.{eq-eqb, ne-eqb, lt-ltb, le-ltb}
 use Rattle.std.proofs.shelf.Lists.{length-map, getD-map, ext-getD}
 use Rattle.rules.specs.Trees.{Tree, empty, node, count, size}
-use Rattle.rules.specs.Links.{grow, spells, Spells}
+use Rattle.rules.specs.Links.{Spells}
 use Rattle.rules.specs.Plans.{Plan, new-plan, block-count, present, bare}
 use Rattle.rules.specs.Edits.{with-tree}
 use Rattle.rules.proofs.Spelling.{to-spells, from-spells, grow-is, size-le}

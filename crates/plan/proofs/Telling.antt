@@ -1,18 +1,17 @@
 -- What the table says of a block is what the plan says.
-use mathlib.Core.Path.{_≡_, refl, sym, ap, subst, _∙_}
+use mathlib.Core.Path.{_≡_, sym, ap, _∙_}
 use mathlib.Core.List.{List, map}
-use mathlib.Core.Bool.{Bool, cond}
+use mathlib.Core.Bool.{Bool}
 use mathlib.Core.Logic.{inl, inr}
-use Prim.Native.Nat.{ℕ, _+_, _<_, _≤_}
+use Prim.Native.Nat.{ℕ, _<_, _≤_}
 use native.Mathlib.Omega.{arith}
-use lib.Dec.{eqb, ltb}
 use lib.ListN.{length}
 use Rattle.std.proofs.shelf.Tests.{cases-eq, cases-lt, eq-eqb, ne-eqb, lt-ltb, le-ltb, cond-true, cond-false}
 use Rattle.std.proofs.shelf.Lists.{getD-map}
 use Rattle.rules.specs.declared.blocks.Children.{Children}
 use Rattle.rules.specs.declared.blocks.Letter.the-variants.{Free}
 use Rattle.rules.specs.Trees.{Tree, empty, node, count}
-use Rattle.rules.specs.Plans.{Plan, size-at, letter-at}
+use Rattle.rules.specs.Plans.{size-at, letter-at}
 use Rattle.rules.specs.Letters.{letter-kept}
 use Rattle.rules.proofs.Counts.{others, no-count}
 use Rattle.table.specs.declared.blocks.Block.{Block}

@@ -1,11 +1,8 @@
 -- What the two states of a plan mean.
-use mathlib.Core.Bool.{Bool, true, false, cond, not}
+use mathlib.Core.Bool.{Bool, cond, not}
 use mathlib.Core.List.{List}
 use Prim.Native.Nat.{ℕ, _+_, min}
 use Rattle.std.specs.Of.Vec.{vec-items}
-use Rattle.std.specs.declared.option.Option.{Option}
-use Rattle.std.specs.declared.option.Option.the-variants.{Some, None}
-use Rattle.rules.specs.declared.refusals.Refusal.{Refusal}
 use Rattle.rules.specs.Plans.{Plan}
 use Rattle.rules.specs.Book.{Call, Settles, Tries}
 use Rattle.table.specs.declared.blocks.Block.{Block}
@@ -50,11 +47,6 @@ tried-kept t = t .kept
 
 abbrev pub kept-next : Tried → ℕ
 kept-next t = cond (t .edited) (min 4294967295 (t .kept + 1)) (t .kept)
-
--- a test refuses
-abbrev pub refuses : Option Refusal → Bool
-refuses None = false
-refuses (Some r) = true
 
 -- the plan in hand follows a list of calls
 abbrev pub Settled-by : List Call → Settled → Type 0

@@ -1,5 +1,5 @@
 -- What a plan tells of a block.
-use mathlib.Core.Bool.{Bool, cond}
+use mathlib.Core.Bool.{cond}
 use Prim.Native.Nat.{ℕ}
 use lib.Dec.{eqb, ltb}
 use Rattle.std.specs.declared.result.Result.{Result}

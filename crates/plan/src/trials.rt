@@ -9,10 +9,11 @@ ghost use Rattle.std.specs.Vec.{made};
 ghost use Rattle.rules.specs.Refusals.{answered};
 ghost use Rattle.rules.specs.Plans.{new-plan};
 ghost use Rattle.rules.specs.Edits.{edit-refusal};
+ghost use Rattle.rules.specs.Loads.{is-some};
 ghost use Rattle.rules.specs.Book.{Call, test, begin, keep, undo};
 ghost use Rattle.theorems.specs.Steps.{plan-begun, count-begun};
 ghost use Rattle.loading.specs.Told.{given};
-ghost use Rattle.plan.specs.Meaning.{settled-plan, settled-kept, tried-plan, before-plan, tried-kept, kept-next, is-empty, refuses, Settled-by, Tried-by};
+ghost use Rattle.plan.specs.Meaning.{settled-plan, settled-kept, tried-plan, before-plan, tried-kept, kept-next, is-empty, Settled-by, Tried-by};
 ghost use Rattle.plan.specs.Calls.{Load-gives};
 ghost use Rattle.plan.specs.Reports.{reported};
 use crate::plans::Plan;
@@ -70,13 +71,6 @@ impl Settled {
         Ok(sizes.len())
     }
 
-    // How many trials that were not empty have been kept since load.
-    pub fn kept(&self) -> u32
-        ensures { λ r. ⌜ r ≡ settled-kept (now (self .entry)) ⌝ }
-    {
-        self.kept
-    }
-
     pub fn report(&self, block: u16) -> Result<Report, Refusal>
         ensures { λ r. ⌜ r ≡ reported (settled-plan (now (self .entry))) block ⌝ }
     {
@@ -98,7 +92,7 @@ impl Settled {
     pub fn begin(self, edit: Edit) -> Tried
         ensures plan { λ r. ⌜ tried-plan r ≡ plan-begun (edit-refusal (settled-plan self) edit) edit (settled-plan self) ⌝ }
         ensures before { λ r. ⌜ before-plan r ≡ settled-plan self ⌝ }
-        ensures empty { λ r. ⌜ is-empty r ≡ refuses (edit-refusal (settled-plan self) edit) ⌝ }
+        ensures empty { λ r. ⌜ is-empty r ≡ is-some (edit-refusal (settled-plan self) edit) ⌝ }
         ensures kept { λ r. ⌜ tried-kept r ≡ settled-kept self ⌝ }
         ensures next { λ r. ⌜ kept-next r ≡ count-begun (edit-refusal (settled-plan self) edit) (settled-kept self) ⌝ }
         ensures told { λ r. ⌜ ((cs : List Call) → Settled-by cs self → Tried-by (cs ++ (begin edit ∷ [])) r) ⌝ }

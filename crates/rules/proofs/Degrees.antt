@@ -1,14 +1,14 @@
 -- Links that lead to each block at most once, and not to the root, spell a tree.
 use mathlib.Core.Path.{_≡_, refl, sym, ap, subst, _∙_}
 use mathlib.Core.Bool.{Bool, true, false, cond}
-use mathlib.Core.Logic.{_⊎_, inl, inr, _≢_}
+use mathlib.Core.Logic.{_⊎_, inl, inr}
 use Prim.Native.Nat.{ℕ, zero, suc, _+_, _<_, _≤_}
 use native.Mathlib.Omega.{arith}
-use lib.Dec.{eqb, ltb}
-use Rattle.std.proofs.shelf.Tests.{eqb-true, eq-eqb, ne-eqb, cond-true, cond-false, cases-eq, cases-lt, cases-bool}
+use lib.Dec.{eqb}
+use Rattle.std.proofs.shelf.Tests.{eq-eqb, ne-eqb, cond-true, cond-false, cases-eq, cases-lt}
 use Rattle.rules.specs.Trees.{Tree, empty, node, count, size}
 use Rattle.rules.specs.Links.{grow, Spells, sum-below, leading}
-use Rattle.rules.proofs.Spelling.{sum-add, sum-zero, sum-none, sum-one, sum-le}
+use Rattle.rules.proofs.Spelling.{sum-add, sum-one, sum-le}
 
 -- the same, each link weighed
 weigh : (ℕ → ℕ) → ℕ → ℕ → (ℕ → ℕ) → ℕ

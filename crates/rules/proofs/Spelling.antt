@@ -1,10 +1,10 @@
 -- The tree that links spell: the test and the relation, that there is one such tree only, and what keeps it.
 use mathlib.Core.Path.{_≡_, refl, sym, ap, subst, _∙_}
-use mathlib.Core.Bool.{Bool, true, false, cond, _&&_}
-use mathlib.Core.Logic.{_⊎_, inl, inr, _≢_}
+use mathlib.Core.Bool.{true, cond}
+use mathlib.Core.Logic.{inl, inr}
 use Prim.Native.Nat.{ℕ, zero, suc, _+_, _<_, _≤_}
 use native.Mathlib.Omega.{arith}
-use lib.Dec.{eqb, ltb}
+use lib.Dec.{eqb}
 use Rattle.std.proofs.shelf.Tests.{eqb-true, ltb-true, eq-eqb, ne-eqb, lt-ltb, and-parts, and-from, cond-true, cond-false, cases-eq}
 use Rattle.std.proofs.shelf.Ways.{tells}
 use Rattle.rules.specs.Trees.{Tree, empty, node, count, size, exchange, swap}

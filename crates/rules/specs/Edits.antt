@@ -1,12 +1,10 @@
 -- The five edits: what each does to a plan, and its test.
-use mathlib.Core.List.{List, [], _∷_}
-use mathlib.Core.Bool.{Bool, cond, not}
-use mathlib.Core.Path.{_≡_}
+use mathlib.Core.Bool.{cond, not}
 use Prim.Native.Nat.{ℕ}
 use lib.Dec.{eqb, leb}
 use lib.ListN.{set}
 use Rattle.std.specs.declared.option.Option.{Option}
-use Rattle.std.specs.declared.option.Option.the-variants.{Some, None}
+use Rattle.std.specs.declared.option.Option.the-variants.{None}
 use Rattle.rules.specs.declared.blocks.Size.{Size}
 use Rattle.rules.specs.declared.edits.Edit.{Edit}
 use Rattle.rules.specs.declared.edits.Edit.the-variants.{Turn, Swap, TakeOut, PutIn, Move}

@@ -1,5 +1,5 @@
 -- Load: its arguments, its tests, and the plan that it gives.
-use mathlib.Core.List.{List, [], _∷_, map}
+use mathlib.Core.List.{List, map}
 use mathlib.Core.Bool.{Bool, true, false, cond, not, _&&_, _||_}
 use Prim.Native.Nat.{ℕ, zero, suc, _+_}
 use lib.Dec.{eqb, ltb, leb}
@@ -13,7 +13,7 @@ use Rattle.rules.specs.declared.blocks.Children.{Children}
 use Rattle.rules.specs.declared.refusals.Refusal.{Refusal}
 use Rattle.rules.specs.declared.refusals.Refusal.the-variants.{TooManyBlocks, LengthsDiffer, SideOutOfRange, UnknownLetter, WrongChild, WrongRoot, ChildTwice, Unreached, MemoryTooShort}
 use Rattle.rules.specs.Refusals.{when}
-use Rattle.rules.specs.Trees.{Tree, count}
+use Rattle.rules.specs.Trees.{count}
 use Rattle.rules.specs.Links.{left-of, right-of, tree-of, named}
 use Rattle.rules.specs.Letters.{letter-of}
 use Rattle.rules.specs.Plans.{Plan, size-at, size-fits}

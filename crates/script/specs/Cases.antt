@@ -4,9 +4,10 @@ use mathlib.Core.List.{[]}
 use lib.Chars.{codes}
 use Rattle.rules.specs.declared.edits.Edit.the-variants.{Turn, Swap, TakeOut, PutIn, Move}
 use Rattle.rules.specs.declared.edits.Side.the-variants.{Left, Right}
-use Rattle.script.specs.declared.line.Line.the-variants.{Skipped, Block, Size, Letter, Pair, Load, Test, Begin, Keep, Undo, Report, NotUnderstood}
+use Rattle.script.specs.declared.line.Line.the-variants.{Skipped, Block, Size, Letter, Pair, Load, Test, Begin, Keep, Undo, Report, Make, Clear, Highest, Raise, NotUnderstood}
+use Rattle.script.specs.declared.line.Kind.the-variants.{Columns, Steps, Placed}
 use Rattle.script.specs.Grammar.{meant}
-use Rattle.script.specs.Lines.{first-line, behind-line}
+use Rattle.words.specs.Lines.{first-line, behind-line}
 
 -- each line beside what it says, and two texts by their first lines
 pub record Readings : Type 0 where
@@ -25,6 +26,15 @@ pub record Readings : Type 0 where
   pub keep-said : meant (codes "keep") ≡ Keep
   pub undo-said : meant (codes "undo") ≡ Undo
   pub report-said : meant (codes "report 65535") ≡ Report 65535
+  pub columns-made : meant (codes "skyline columns 1000000") ≡ Make (Columns 1000000)
+  pub steps-made : meant (codes "skyline steps 67108864 1025") ≡ Make (Steps 67108864 1025)
+  pub placed-made : meant (codes "skyline placed 999999999 100000") ≡ Make (Placed 999999999 100000)
+  pub clear-said : meant (codes "clear") ≡ Clear
+  pub highest-said : meant (codes "highest 0 3") ≡ Highest 0 3
+  pub raise-said : meant (codes "raise 2 4 5") ≡ Raise 2 4 5
+  pub too-many-columns : meant (codes "skyline columns 1000001") ≡ NotUnderstood
+  pub too-many-records : meant (codes "skyline steps 9 100001") ≡ NotUnderstood
+  pub no-such-kind : meant (codes "skyline ledges 9") ≡ NotUnderstood
   pub other-name : meant (codes "Keep") ≡ NotUnderstood
   pub ten-digits : meant (codes "size 1 0000000001") ≡ NotUnderstood
   pub no-such-number : meant (codes "report 65536") ≡ NotUnderstood

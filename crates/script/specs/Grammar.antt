@@ -1,5 +1,5 @@
 -- What a line says: its first word names the command, and the others are its arguments.
-use mathlib.Core.Bool.{Bool, true, false, cond}
+use mathlib.Core.Bool.{Bool, false, cond}
 use mathlib.Core.List.{List, [], _∷_}
 use Prim.Native.Nat.{ℕ}
 use lib.Chars.{codes}
@@ -9,53 +9,13 @@ use Rattle.std.specs.declared.option.Option.the-variants.{Some, None}
 use Rattle.std.specs.shelf.Text.{sameBytes}
 use Rattle.rules.specs.declared.edits.Edit.{Edit}
 use Rattle.rules.specs.declared.edits.Edit.the-variants.{Turn, Swap, TakeOut, PutIn, Move}
-use Rattle.rules.specs.declared.edits.Side.{Side}
 use Rattle.script.specs.declared.line.Line.{Line}
-use Rattle.script.specs.declared.line.Line.the-variants.{Skipped, Block, Size, Letter, Pair, Load, Test, Begin, Keep, Undo, Report, NotUnderstood}
-use Rattle.script.specs.Words.{Word, words, first, byte-of, side-of}
-use Rattle.script.specs.Numbers.{number-of, block-of, walk-of}
-
--- what f makes of an argument and of the words behind it; nothing where there is no such argument
-abbrev pub then : {A B : Type 0} → Option (A × List Word) → (A → List Word → Option B) → Option B
-then None f = None
-then (Some p) f = f (p .0) (p .1)
-
--- the first word as an argument, and then f
-abbrev pub argument : {A B : Type 0} → (Word → Option A) → (A → List Word → Option B) → List Word → Option B
-argument says f ws = then (first says ws) f
-
--- whether no word is left
-abbrev pub no-more : List Word → Bool
-no-more [] = true
-no-more (w ∷ ws) = false
-
--- no more arguments
-abbrev pub end : {B : Type 0} → B → List Word → Option B
-end b ws = cond (no-more ws) (Some b) None
-
--- X
-abbrev pub one-byte : List Word → Option ℕ
-one-byte = argument byte-of (λ x. end x)
-
--- I
-abbrev pub one-block : List Word → Option ℕ
-one-block = argument block-of (λ i. end i)
-
--- I J
-abbrev pub two-blocks : List Word → Option (ℕ × ℕ)
-two-blocks = argument block-of (λ i. argument block-of (λ j. end (i, j)))
-
--- W H
-abbrev pub two-numbers : List Word → Option (ℕ × ℕ)
-two-numbers = argument number-of (λ w. argument number-of (λ h. end (w, h)))
-
--- I J left | I J right
-abbrev pub blocks-and-side : List Word → Option (ℕ × ℕ × Side)
-blocks-and-side = argument block-of (λ i. argument block-of (λ j. argument side-of (λ s. end (i, j, s))))
-
--- ROOT WALK
-abbrev pub root-and-walk : List Word → Option (ℕ × ℕ)
-root-and-walk = argument block-of (λ root. argument walk-of (λ walk. end (root, walk)))
+use Rattle.script.specs.declared.line.Line.the-variants.{Skipped, Block, Size, Letter, Pair, Load, Test, Begin, Keep, Undo, Report, Make, Clear, Highest, Raise, NotUnderstood}
+use Rattle.script.specs.declared.line.Kind.{Kind}
+use Rattle.script.specs.declared.line.Kind.the-variants.{Columns, Steps, Placed}
+use Rattle.words.specs.Words.{Word, words, byte-of}
+use Rattle.words.specs.Numbers.{number-of}
+use Rattle.words.specs.Arguments.{argument, end, one-byte, one-block, two-blocks, two-numbers, three-numbers, blocks-and-side, one-up-to, block-and-up-to, number-and-up-to}
 
 -- what f makes of the arguments, if they have their form
 abbrev pub made : {A B : Type 0} → (A → B) → Option A → Option B
@@ -96,9 +56,9 @@ letter-line args = made Letter (one-byte args)
 abbrev pub pair-line : List Word → Option Line
 pair-line args = made (λ p. Pair (record { left = p .0; right = p .1 })) (two-blocks args)
 
--- load ROOT WALK
+-- load ROOT WALK, with at most 1,000,000 walk records
 abbrev pub load-line : List Word → Option Line
-load-line args = made (λ p. Load (p .0) (p .1)) (root-and-walk args)
+load-line args = made (λ p. Load (p .0) (p .1)) (block-and-up-to 1000000 args)
 
 -- test EDIT
 abbrev pub test-line : List Word → Option Line
@@ -112,9 +72,9 @@ begin-line args = made Begin (edit-of args)
 abbrev pub report-line : List Word → Option Line
 report-line args = made Report (one-block args)
 
--- a command by its name; keep and undo stand alone
-abbrev pub line-named : Word → List Word → Option Line
-line-named name args =
+-- a call on the plan, or a part of its lists; keep and undo stand alone
+abbrev pub plan-line : Word → List Word → Option Line
+plan-line name args =
     cond (sameBytes name (codes "block")) (block-line args)
     (cond (sameBytes name (codes "size")) (size-line args)
     (cond (sameBytes name (codes "letter")) (letter-line args)
@@ -125,6 +85,43 @@ line-named name args =
     (cond (sameBytes name (codes "keep")) (end Keep args)
     (cond (sameBytes name (codes "undo")) (end Undo args)
     (cond (sameBytes name (codes "report")) (report-line args) None)))))))))
+
+-- columns C, at most 1,000,000 | steps C RECORDS | placed C RECORDS, at most 100,000 records
+abbrev pub kind-named : Word → List Word → Option Kind
+kind-named name args =
+    cond (sameBytes name (codes "columns")) (made Columns (one-up-to 1000000 args))
+    (cond (sameBytes name (codes "steps")) (made (λ p. Steps (p .0) (p .1)) (number-and-up-to 100000 args))
+    (cond (sameBytes name (codes "placed")) (made (λ p. Placed (p .0) (p .1)) (number-and-up-to 100000 args)) None))
+
+-- skyline KIND
+abbrev pub make-line : List Word → Option Line
+make-line [] = None
+make-line (name ∷ args) = made Make (kind-named name args)
+
+-- highest A B
+abbrev pub highest-line : List Word → Option Line
+highest-line args = made (λ p. Highest (p .0) (p .1)) (two-numbers args)
+
+-- raise A B H
+abbrev pub raise-line : List Word → Option Line
+raise-line args = made (λ p. Raise (p .0) (p .1) (p .2)) (three-numbers args)
+
+-- a call on the skyline; clear stands alone
+abbrev pub skyline-line : Word → List Word → Option Line
+skyline-line name args =
+    cond (sameBytes name (codes "skyline")) (make-line args)
+    (cond (sameBytes name (codes "clear")) (end Clear args)
+    (cond (sameBytes name (codes "highest")) (highest-line args)
+    (cond (sameBytes name (codes "raise")) (raise-line args) None)))
+
+-- the first, if it says something, else the second
+abbrev pub or-else : Option Line → Option Line → Option Line
+or-else None o = o
+or-else (Some l) o = Some l
+
+-- a command by its name
+abbrev pub line-named : Word → List Word → Option Line
+line-named name args = or-else (plan-line name args) (skyline-line name args)
 
 -- a comment begins with #
 abbrev pub comment : Word → Bool

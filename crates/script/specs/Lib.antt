@@ -1,5 +1,2 @@
-pub mod Words
-pub mod Lines
-pub mod Numbers
 pub mod Grammar
 pub mod Cases

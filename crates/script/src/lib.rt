@@ -1,10 +1,7 @@
-// Scripts: a text cut into lines, and what a line says.
-mod arguments;
+// What a line of a script says.
 pub mod line;
 mod read;
-mod split;
-mod word;
+mod skies;
 
 pub use read::read_line;
 pub use read::readings;
-pub use split::next_line;

@@ -3,6 +3,14 @@ use rules::blocks::Children;
 use rules::blocks::Size;
 use rules::edits::Edit;
 
+// A kind of skyline, with its number of columns and, for the last two, of records.
+#[derive(Clone, Copy)]
+pub enum Kind {
+    Columns(u32),
+    Steps(u32, u32),
+    Placed(u32, u32),
+}
+
 #[derive(Clone, Copy)]
 pub enum Line {
     // a blank line or a comment
@@ -19,5 +27,12 @@ pub enum Line {
     Keep,
     Undo,
     Report(u16),
+    // a new skyline
+    Make(Kind),
+    Clear,
+    // from a to b
+    Highest(u32, u32),
+    // from a to b to h
+    Raise(u32, u32, u32),
     NotUnderstood,
 }

@@ -1,23 +1,28 @@
 // What a line of a script says: its first word names the command, and the others are its arguments.
 ghost use mathlib.Core.Path.{_≡_};
 ghost use Rattle.script.specs.Cases.{Readings};
-ghost use Rattle.script.specs.Grammar.{end, edit-named, edit-of, block-line, size-line, letter-line, pair-line, load-line, test-line, begin-line, report-line, line-named, comment, meant};
-ghost use Rattle.script.specs.Words.{words};
-use crate::arguments::blocks_and_side;
-use crate::arguments::byte;
-use crate::arguments::no_more;
-use crate::arguments::number;
-use crate::arguments::one_block;
-use crate::arguments::one_byte;
-use crate::arguments::root_and_walk;
-use crate::arguments::two_blocks;
-use crate::arguments::two_numbers;
+ghost use Rattle.script.specs.Grammar.{edit-named, edit-of, block-line, size-line, letter-line, pair-line, load-line, test-line, begin-line, report-line, plan-line, line-named, comment, meant};
+ghost use Rattle.words.specs.Arguments.{end};
+ghost use Rattle.words.specs.Words.{words};
 use crate::line::Line;
-use crate::split::next_word;
-use crate::word::is;
+use crate::skies::skyline_line;
 use rules::blocks::Children;
 use rules::blocks::Size;
 use rules::edits::Edit;
+use words::arguments::block_and_up_to;
+use words::arguments::blocks_and_side;
+use words::arguments::byte;
+use words::arguments::no_more;
+use words::arguments::number;
+use words::arguments::one_block;
+use words::arguments::one_byte;
+use words::arguments::two_blocks;
+use words::arguments::two_numbers;
+use words::split::next_word;
+use words::word::is;
+
+// The most walk records that a script may ask for.
+const MOST_WALK: u32 = 1_000_000;
 
 // An edit by its name.
 fn edit_named(name: &[u8], args: &[u8]) -> Option<Edit>
@@ -117,7 +122,7 @@ fn pair_line(args: &[u8]) -> Option<Line>
 fn load_line(args: &[u8]) -> Option<Line>
     ensures { λ r. ⌜ r ≡ load-line (words (now (args .entry))) ⌝ }
 {
-    match root_and_walk(args) {
+    match block_and_up_to(args, MOST_WALK) {
         Some((root, walk)) => Some(Line::Load(root, walk)),
         None => None,
     }
@@ -151,15 +156,15 @@ fn report_line(args: &[u8]) -> Option<Line>
 }
 
 // A command with no arguments.
-fn lone(line: Line, args: &[u8]) -> Option<Line>
+pub(crate) fn lone(line: Line, args: &[u8]) -> Option<Line>
     ensures { λ r. ⌜ r ≡ end line (words (now (args .entry))) ⌝ }
 {
     if no_more(args) { Some(line) } else { None }
 }
 
-// A command by its name.
-fn line_named(name: &[u8], args: &[u8]) -> Option<Line>
-    ensures { λ r. ⌜ r ≡ line-named (now (name .entry)) (words (now (args .entry))) ⌝ }
+// A call on the plan, or a part of its lists, by its name.
+fn plan_line(name: &[u8], args: &[u8]) -> Option<Line>
+    ensures { λ r. ⌜ r ≡ plan-line (now (name .entry)) (words (now (args .entry))) ⌝ }
 {
     if is(name, b"block") {
         block_line(args)
@@ -183,6 +188,16 @@ fn line_named(name: &[u8], args: &[u8]) -> Option<Line>
         report_line(args)
     } else {
         None
+    }
+}
+
+// A command by its name.
+fn line_named(name: &[u8], args: &[u8]) -> Option<Line>
+    ensures { λ r. ⌜ r ≡ line-named (now (name .entry)) (words (now (args .entry))) ⌝ }
+{
+    match plan_line(name, args) {
+        Some(line) => Some(line),
+        None => skyline_line(name, args),
     }
 }
 

@@ -11,6 +11,9 @@ pub enum Answer {
     Kept(u32),
     Undone(u32),
     Reported(Report),
+    // C, R and r of a skyline
+    Skyline(u32, u32, u32),
+    Highest(u32),
     Refused(Refusal),
     NotAllowed,
 }

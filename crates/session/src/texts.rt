@@ -57,6 +57,8 @@ pub impl fmt::Display for Answer as AnswerDisplay {
             Answer::Kept(n) => write!(f, "kept {n}"),
             Answer::Undone(n) => write!(f, "undone {n}"),
             Answer::Reported(report) => write!(f, "{}", ReportLine { report }),
+            Answer::Skyline(c, all, left) => write!(f, "skyline {c} {all} {left}"),
+            Answer::Highest(h) => write!(f, "highest {h}"),
             Answer::Refused(r) => write!(f, "{r}"),
             Answer::NotAllowed => write!(f, "not allowed"),
         }

@@ -1,13 +1,13 @@
 -- What a caller of any skyline learns from its answers.
-use mathlib.Core.Path.{_≡_, refl, sym, ap, _∙_}
-use mathlib.Core.Logic.{_⊎_, inl, inr}
-use Prim.Native.Nat.{ℕ, _+_, _<_, _≤_}
+use mathlib.Core.Path.{_≡_, refl, ap}
+use mathlib.Core.Logic.{inl, inr}
+use Prim.Native.Nat.{ℕ, _<_, _≤_}
 use native.Mathlib.Omega.{arith}
 use Rattle.std.specs.declared.result.Result.{Result}
 use Rattle.std.specs.declared.result.Result.the-variants.{Ok, Err}
 use Rattle.rules.specs.declared.refusals.Refusal.{Refusal}
 use Rattle.rules.specs.declared.refusals.Refusal.the-variants.{BelowHighest}
-use Rattle.rules.specs.Skylines.{Sky, Within, None-above, Largest, Unaltered, Raised, Highest, Raise}
+use Rattle.rules.specs.Skylines.{Sky, Within, None-above, Largest, Raised, Highest, Raise}
 
 -- the largest height is one number
 pub largest-one : (s : Sky) (a b m n : ℕ) → Largest s a b m → Largest s a b n → m ≡ n

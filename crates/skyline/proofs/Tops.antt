@@ -1,12 +1,9 @@
 -- The highest top over a span, record by record: over the whole span it is the largest over its columns.
 use Prim.Native.Nat.{ℕ, _+_, _<_, _≤_, min, max}
 use mathlib.Core.Path.{_≡_, refl, sym, ap, _∙_}
-use mathlib.Core.Logic.{⊎-elim, _⊎_, inl, inr}
-use mathlib.Core.Bool.{Bool, true, false, cond}
+use mathlib.Core.Logic.{inl, inr}
 use mathlib.Core.List.{List, [], _∷_, _++_}
 use native.Mathlib.Omega.{arith}
-use native.Mathlib.Nat.{zero-max}
-use lib.Dec.{ltb}
 use lib.ListN.{length, take, getD}
 use Rattle.std.proofs.shelf.Lists.{take-more}
 use Rattle.std.proofs.shelf.Tests.{cases-lt}

@@ -1,23 +1,21 @@
 -- The branches by links are those of the tree.
-use mathlib.Core.Path.{_≡_, refl, sym, ap, subst, _∙_}
+use mathlib.Core.Path.{_≡_, refl, sym, ap, _∙_}
 use mathlib.Core.List.{List, [], _∷_}
-use mathlib.Core.Bool.{Bool, true, false, cond, _&&_, _||_}
-use mathlib.Core.Logic.{_⊎_, inl, inr}
-use Prim.Native.Nat.{ℕ, zero, suc, _+_, _-_, _<_, _≤_}
+use mathlib.Core.Bool.{true, false, _&&_, _||_}
+use Prim.Native.Nat.{ℕ, zero, suc, _-_, _<_, _≤_}
 use native.Mathlib.Omega.{arith}
-use lib.Dec.{eqb, ltb}
 use lib.ListN.{length}
 use Rattle.std.proofs.shelf.Tests.{eq-eqb, ne-eqb, lt-ltb, le-ltb, cond-true, cond-false}
 use Rattle.rules.specs.declared.blocks.Letter.{Letter}
 use Rattle.rules.specs.declared.blocks.Letter.the-variants.{Free, Top, Bottom, Left as LeftEdge, Right as RightEdge}
 use Rattle.rules.specs.declared.edits.Side.{Side}
 use Rattle.rules.specs.declared.edits.Side.the-variants.{Left, Right}
-use Rattle.rules.specs.Trees.{Tree, empty, node, count, size, leftmost, rightmost, left-foot, right-foot, no-left-child, no-right-child}
+use Rattle.rules.specs.Trees.{Tree, empty, node, size, leftmost, rightmost, left-foot, right-foot, no-left-child, no-right-child}
 use Rattle.rules.specs.Letters.{among, letter-kept}
 use Rattle.rules.proofs.Spelling.{size-le}
 use Rattle.table.specs.declared.blocks.Block.{Block}
 use Rattle.table.specs.Tables.{at, lefts, rights, Holds}
-use Rattle.table.specs.Branches.{child, opposite, branch, branch-of, last-from, end-of, childless, foot-kept, kept-by-links}
+use Rattle.table.specs.Branches.{child, branch, branch-of, last-from, end-of, childless, foot-kept, kept-by-links}
 use Rattle.table.proofs.Holding.{Sp, at-most-once}
 
 -- the steps of a walk along a branch

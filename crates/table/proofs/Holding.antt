@@ -1,14 +1,14 @@
 -- What a table that holds a tree says of its blocks.
-use mathlib.Core.Path.{_≡_, refl, sym, ap, subst, _∙_}
+use mathlib.Core.Path.{_≡_, refl, ap, _∙_}
 use mathlib.Core.List.{List}
 use mathlib.Core.Bool.{Bool, true, false, cond}
-use mathlib.Core.Logic.{inl, inr, _≢_}
-use Prim.Native.Nat.{ℕ, _+_, _<_, _≤_}
+use mathlib.Core.Logic.{inl, inr}
+use Prim.Native.Nat.{ℕ, _<_, _≤_}
 use native.Mathlib.Omega.{arith}
 use lib.ListN.{length}
-use Rattle.std.proofs.shelf.Tests.{cases-lt, cond-true, cond-false}
+use Rattle.std.proofs.shelf.Tests.{cases-lt, cond-true}
 use Rattle.std.proofs.shelf.Lists.{getD-past}
-use Rattle.rules.specs.Trees.{Tree, empty, node, count}
+use Rattle.rules.specs.Trees.{Tree, count}
 use Rattle.rules.specs.Links.{Spells}
 use Rattle.rules.proofs.Spelling.{frame}
 use Rattle.rules.proofs.Counts.{flag-le}

@@ -1,9 +1,7 @@
 -- The steps of `lowered`.
 use mathlib.Core.Path.{_≡_, refl, _∙_}
 use mathlib.Core.List.{List}
-use mathlib.Core.Bool.{Bool, cond}
 use Prim.Native.Nat.{ℕ, zero, suc, _<_, _≤_}
-use lib.Dec.{eqb, ltb}
 use lib.ListN.{length, set}
 use Rattle.std.proofs.shelf.Tests.{eq-eqb, ne-eqb, lt-ltb, le-ltb, cond-true, cond-false}
 use Rattle.table.specs.declared.blocks.Block.{Block}

@@ -2,12 +2,12 @@
 use mathlib.Core.Path.{_≡_, refl, sym, ap, subst, _∙_}
 use mathlib.Core.List.{List}
 use mathlib.Core.Bool.{Bool, true, false, cond}
-use mathlib.Core.Logic.{_⊎_, inl, inr, _≢_}
-use Prim.Native.Nat.{ℕ, zero, suc, _+_, _<_, _≤_}
+use mathlib.Core.Logic.{inl, inr}
+use Prim.Native.Nat.{ℕ, _<_, _≤_}
 use native.Mathlib.Omega.{arith}
-use lib.Dec.{eqb, ltb}
-use lib.ListN.{length, getD, set}
-use Rattle.std.proofs.shelf.Tests.{cases-eq, cases-lt, eq-eqb, ne-eqb, lt-ltb, le-ltb, cond-true, cond-false}
+use lib.Dec.{eqb}
+use lib.ListN.{length, set}
+use Rattle.std.proofs.shelf.Tests.{cases-eq, eq-eqb, ne-eqb, lt-ltb, le-ltb, cond-true, cond-false}
 use Rattle.std.proofs.shelf.Lists.{length-set, getD-set-same, getD-set-other}
 use Rattle.rules.specs.declared.edits.Side.{Side}
 use Rattle.rules.specs.declared.edits.Side.the-variants.{Left, Right}
@@ -16,7 +16,7 @@ use Rattle.rules.proofs.Counts.{own, others, parts-le, not-in, no-count, hang-c
 use Rattle.table.specs.declared.blocks.Block.{Block}
 use Rattle.table.specs.Tables.{at, blank, lefts, rights, linked, hung, below-by, above-by, under, alone, put, put-root, within, Holds, Keeps, Fits-in}
 use Rattle.table.proofs.Rows.{set-part}
-use Rattle.table.proofs.Holding.{Sp, frame-at, in-tree-present, in-tree-once, in-tree-within}
+use Rattle.table.proofs.Holding.{Sp, frame-at, in-tree-once, in-tree-within}
 
 module _ (bs es : List Block) (n i j : ℕ) (hi : i < n) (hj : j < n) where
   sides : (s : Side) → at es i ≡ below-by s (at bs j) (at bs i) → at es j ≡ above-by s i (at bs j)

@@ -10,7 +10,7 @@ use lib.ListN.{length, set}
 use Rattle.std.proofs.shelf.Tests.{cases-eq, cases-lt}
 use Rattle.std.proofs.shelf.Lists.{length-set, getD-set-same, getD-set-other, set-past, length-map, getD-map, getD-past}
 use Rattle.table.specs.declared.blocks.Block.{Block}
-use Rattle.table.specs.Tables.{at, blank, linked, relinked, lowered, joined}
+use Rattle.table.specs.Tables.{at, blank, linked, lowered, joined}
 
 -- a row written over by one with the same part
 pub set-part : {X : Type 0} (f : Block → X) (bs : List Block) (j m : ℕ) (b : Block) → f b ≡ f (at bs j) → f (at (set bs j b) m) ≡ f (at bs m)

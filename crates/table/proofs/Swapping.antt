@@ -1,16 +1,15 @@
 -- Two blocks in each other's place.
 use mathlib.Core.Path.{_≡_, refl, sym, ap, subst, _∙_}
 use mathlib.Core.List.{List, map}
-use mathlib.Core.Bool.{Bool, true, false, cond, _&&_}
+use mathlib.Core.Bool.{Bool, true, false, cond}
 use mathlib.Core.Logic.{_⊎_, inl, inr, _≢_}
 use Prim.Native.Nat.{ℕ, _<_, _≤_}
 use native.Mathlib.Omega.{arith}
-use lib.Dec.{eqb, ltb}
 use lib.ListN.{length, set}
 use Rattle.std.proofs.shelf.Tests.{cases-eq, lt-ltb, le-ltb, and-from, and-left, and-right, cond-true, cond-false}
 use Rattle.std.proofs.shelf.Ways.{tells}
 use Rattle.std.proofs.shelf.Lists.{length-set, getD-set-same, getD-set-other, length-map, getD-map}
-use Rattle.rules.specs.Trees.{Tree, count, exchange, swap}
+use Rattle.rules.specs.Trees.{Tree, exchange, swap}
 use Rattle.rules.specs.Links.{Spells}
 use Rattle.rules.proofs.Spelling.{swap-spells, swap-count, exchange-twice}
 use Rattle.table.specs.declared.blocks.Block.{Block}

@@ -5,19 +5,18 @@ use mathlib.Core.Bool.{Bool, true, false, cond}
 use mathlib.Core.Logic.{_⊎_, inl, inr, _≢_}
 use Prim.Native.Nat.{ℕ, zero, suc, _+_, _<_, _≤_}
 use native.Mathlib.Omega.{arith}
-use lib.Dec.{eqb, ltb}
-use lib.ListN.{length, getD, set}
+use lib.ListN.{length, set}
 use Rattle.std.proofs.shelf.Tests.{cases-eq, cases-lt, eq-eqb, ne-eqb, lt-ltb, le-ltb, cond-true, cond-false}
 use Rattle.std.proofs.shelf.Lists.{length-set, getD-set-same, getD-set-other, length-map, getD-map}
 use Rattle.rules.specs.Trees.{Tree, empty, node, count, size, join, take-out}
 use Rattle.rules.specs.Links.{Spells}
 use Rattle.rules.proofs.Spelling.{size-le}
-use Rattle.rules.proofs.Counts.{own, others, parts-le, not-in, no-count, size-node, join-count, take-out-others, take-out-own}
+use Rattle.rules.proofs.Counts.{own, others, parts-le, not-in, size-node, join-count, take-out-others, take-out-own}
 use Rattle.table.specs.declared.blocks.Block.{Block}
 use Rattle.table.specs.Tables.{at, blank, lefts, rights, linked, relinked, lowered, heir, joined, point, cleared, taken-by, taken, taken-root, within, Holds, Keeps}
 use Rattle.table.proofs.Rows.{Linkless, set-part, map-part, joined-part, joined-long}
 use Rattle.table.proofs.Lowering.{lowered-last, lowered-stop, lowered-more}
-use Rattle.table.proofs.Holding.{Sp, frame-at, in-tree-present, in-tree-once, at-most-once, in-tree-within}
+use Rattle.table.proofs.Holding.{Sp, frame-at, at-most-once, in-tree-within}
 
 -- a node whose own block is written, over subtrees that it is not in
 rewritten : (bs : List Block) (n k l r : ℕ) (x y : Tree) → length bs ≡ n → k < n → count k x ≡ 0 → count k y ≡ 0

@@ -1,7 +1,5 @@
 // The branches at the edges of the tree, by the links of the table.
 ghost use mathlib.Core.Path.{_≡_};
-ghost use Prim.Native.Nat.{_<_};
-ghost use lib.ListN.{length};
 ghost use Rattle.rules.specs.Trees.{Tree};
 ghost use Rattle.rules.specs.Letters.{among, letter-kept};
 ghost use Rattle.table.specs.Tables.{at, Holds};

@@ -1,9 +1,8 @@
 // A block is put into the tree.
 ghost use mathlib.Core.Path.{_≡_};
-ghost use mathlib.Core.Bool.{cond};
-ghost use Prim.Native.Nat.{ℕ, _<_};
+ghost use Prim.Native.Nat.{_<_};
 ghost use lib.ListN.{length};
-ghost use Rattle.rules.specs.Trees.{Tree, count, put-in};
+ghost use Rattle.rules.specs.Trees.{Tree, put-in};
 ghost use Rattle.table.specs.Tables.{Holds, Keeps, Fits-in, put, put-root, alone, under};
 use crate::blocks::Block;
 use rules::blocks::NONE;

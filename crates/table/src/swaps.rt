@@ -1,8 +1,6 @@
 // Two blocks exchange their places in the tree.
 ghost use mathlib.Core.Path.{_≡_};
 ghost use mathlib.Core.Bool.{cond};
-ghost use Prim.Native.Nat.{ℕ, _<_};
-ghost use lib.ListN.{length};
 ghost use Rattle.rules.specs.Trees.{Tree, exchange, swap};
 ghost use Rattle.table.specs.Tables.{Holds, Keeps, swapped, both-within, has-both};
 use crate::blocks::Block;

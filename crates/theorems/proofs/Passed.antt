@@ -51,7 +51,7 @@ pub record Room (p : Plan) (i j : ℕ) : Type 0 where
   pub out : count i (p .tree) ≡ 0
   pub under : (p .tree ≡ empty) ⊎ There p j
 
-absent-count : (p : Plan) (i : ℕ) → present p i ≡ false → count i (p .tree) ≡ 0
+pub absent-count : (p : Plan) (i : ℕ) → present p i ≡ false → count i (p .tree) ≡ 0
 unfolding present
 absent-count p i e = omega (arith, ltb-false 0 (count i (p .tree)) e)
 

@@ -1,10 +1,7 @@
-use Prim.Native.Nat.{_+_, _≤_}
+use denote.Ref.{now}
 use lib.ListN.{length}
 use Rattle.session.proofs.run.Given as given
 
--- each line so far took a byte of the text at least
-abbrev pub Inv-loop-line : given.InvT-loop-line
-Inv-loop-line l = l .number + length (l .rest) ≤ length (l .text)
-
-abbrev pub μ-loop-line : given.MeasureT-loop-line
-μ-loop-line l = length (l .rest)
+-- each skyline that is made takes its line from the rest
+abbrev pub μ-loop-after : given.MeasureT-loop-after
+μ-loop-after l = length (now (l .work .rest))

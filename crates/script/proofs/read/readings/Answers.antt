@@ -1,7 +1,7 @@
 use mathlib.Core.Path.{refl}
-use Rattle.script.specs.Lines.{first-line, behind-line}
-use Rattle.script.specs.Numbers.{spelt-after}
-use Rattle.script.specs.Words.{words}
+use Rattle.words.specs.Lines.{first-line, behind-line}
+use Rattle.words.specs.Numbers.{spelt-after}
+use Rattle.words.specs.Words.{words}
 use Rattle.script.proofs.read.readings.Needs as need
 
 pub returns : need.returns
@@ -23,6 +23,15 @@ returns c =
       keep-said = refl;
       undo-said = refl;
       report-said = refl;
+      columns-made = refl;
+      steps-made = refl;
+      placed-made = refl;
+      clear-said = refl;
+      highest-said = refl;
+      raise-said = refl;
+      too-many-columns = refl;
+      too-many-records = refl;
+      no-such-kind = refl;
       other-name = refl;
       ten-digits = refl;
       no-such-number = refl;

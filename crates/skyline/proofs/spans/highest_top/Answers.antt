@@ -1,6 +1,5 @@
 use mathlib.Core.Path.{ap, _∙_}
 use lib.Seq.{take-all}
-use Prim.Native.Nat.{max}
 use Rattle.skyline.specs.Spans.{highest-top}
 use Rattle.skyline.proofs.Tops.{top-more}
 use Rattle.skyline.proofs.spans.highest_top.Needs as need

@@ -1,9 +1,8 @@
-use mathlib.Core.Path.{_≡_, sym, ap, subst, _∙_}
-use Prim.Native.Nat.{_-_, _+_, _<_, _^_, suc}
+use mathlib.Core.Path.{_≡_, sym, ap, _∙_}
+use Prim.Native.Nat.{_-_, _+_, suc}
 use lib.ListN.{length}
 use native.Mathlib.Omega.{arith}
 use borrow.Author.Needs.{needs}
-use Rattle.table.specs.Tables.{at}
 use Rattle.table.specs.Branches.{branch, last-from}
 use Rattle.table.proofs.Branching.{branch-out, branch-none, last-nil, last-more}
 use Rattle.table.proofs.branches.branch_end.Needs as need

@@ -1,8 +1,7 @@
 use mathlib.Core.Path.{_≡_}
 use Prim.Native.Nat.{_-_, _<_, _^_}
 use lib.ListN.{length}
-use Rattle.rules.specs.Letters.{among}
-use Rattle.table.specs.Branches.{branch, branch-of, last-from, end-of, childless}
+use Rattle.table.specs.Branches.{branch, branch-of, last-from, end-of}
 use Rattle.table.proofs.branches.branch_end.Given as given
 
 abbrev pub Inv-loop-step : given.InvT-loop-step

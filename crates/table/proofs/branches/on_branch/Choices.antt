@@ -2,7 +2,7 @@ use mathlib.Core.Path.{_≡_}
 use Prim.Native.Nat.{_-_, _<_, _^_}
 use lib.ListN.{length}
 use Rattle.rules.specs.Letters.{among}
-use Rattle.table.specs.Branches.{branch, branch-of, last-from, end-of, childless}
+use Rattle.table.specs.Branches.{branch, branch-of}
 use Rattle.table.proofs.branches.on_branch.Given as given
 
 abbrev pub Inv-loop-step : given.InvT-loop-step

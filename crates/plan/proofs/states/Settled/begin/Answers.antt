@@ -1,10 +1,11 @@
-use mathlib.Core.Path.{_≡_, refl, sym, ap, _∙_}
+use mathlib.Core.Path.{_≡_, refl, ap, _∙_}
 use Prim.Native.Nat.{_+_, min}
 use Rattle.rules.specs.Edits.{edit-refusal}
+use Rattle.rules.specs.Loads.{is-some}
 use Rattle.theorems.specs.Steps.{plan-begun, count-begun}
 use Rattle.theorems.proofs.Following.{follows-begin}
 use Rattle.plan.specs.Sound.{plan-of}
-use Rattle.plan.specs.Meaning.{meant, refuses}
+use Rattle.plan.specs.Meaning.{meant}
 use Rattle.std.specs.Of.Vec.{vec-items}
 use Rattle.plan.proofs.states.Settled.begin.Needs as need
 
@@ -21,7 +22,7 @@ returns-in-Some c =
     record {
       plan = plan;
       before = before;
-      empty = ap refuses is;
+      empty = ap is-some is;
       kept = refl;
       next = next;
       told = follows-begin e p p (meant (c .copy-from .last .self)) kept kept kept plan before next refl;
@@ -40,7 +41,7 @@ returns-in-None c =
     record {
       plan = plan;
       before = before;
-      empty = ap refuses is;
+      empty = ap is-some is;
       kept = refl;
       next = next;
       told = follows-begin e p (meant (c .perform .last .self .table)) (meant (c .copy-from .last .self)) kept (min 4294967295 (kept + 1)) kept plan before next refl;

@@ -1,9 +1,9 @@
-use mathlib.Core.Path.{_≡_, refl, sym, ap, _∙_}
+use mathlib.Core.Path.{_≡_, sym, ap, _∙_}
 use Prim.Native.Nat.{ℕ}
 use lib.ListN.{length}
 use Rattle.std.specs.Of.Vec.{vec-items}
 use Rattle.rules.specs.Refusals.{answered}
-use Rattle.rules.specs.Loads.{Given, load-refusal}
+use Rattle.rules.specs.Loads.{load-refusal}
 use Rattle.theorems.specs.Steps.{plan-loaded, count-loaded}
 use Rattle.theorems.proofs.Following.{follows-load}
 use Rattle.loading.specs.Told.{given}

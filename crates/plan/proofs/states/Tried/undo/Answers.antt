@@ -1,6 +1,4 @@
 use mathlib.Core.Path.{refl}
-use Prim.Native.Nat.{_+_, min}
-use mathlib.Core.Bool.{cond}
 use Rattle.theorems.proofs.Following.{follows-undo}
 use Rattle.plan.specs.Meaning.{meant, kept-next}
 use Rattle.plan.proofs.states.Tried.undo.Needs as need

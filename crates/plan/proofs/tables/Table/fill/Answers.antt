@@ -1,13 +1,11 @@
-use mathlib.Core.Path.{_≡_, refl, sym, ap, _∙_}
-use mathlib.Core.List.{[], _∷_, _++_, map}
-use Prim.Native.Nat.{_<_, _≤_}
+use mathlib.Core.Path.{sym, ap, _∙_}
+use mathlib.Core.List.{[], _∷_, _++_}
 use native.Mathlib.Omega.{arith}
 use lib.ListN.{length}
 use borrow.Author.Needs.{needs}
-use Rattle.std.specs.Of.Vec.{vec-items, vec-len}
-use Rattle.std.specs.Iters.{counting}
+use Rattle.std.specs.Of.Vec.{vec-items}
 use Rattle.std.proofs.shelf.Counted.{map-counting-more, length-map-counting}
-use Rattle.plan.specs.Rows.{row-at, loaded-rows}
+use Rattle.plan.specs.Rows.{row-at}
 use Rattle.plan.proofs.tables.Table.fill.Needs as need
 
 pub push-reserved-requires : need.push-reserved-requires

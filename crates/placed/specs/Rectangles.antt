@@ -1,0 +1,6 @@
+-- The span and the top of a raised rectangle.
+use Rattle.skyline.specs.Spans.{Extent}
+use Rattle.placed.specs.declared.rectangles.Rectangle.{Rectangle}
+
+abbrev pub rectangle-extent : Rectangle → Extent
+rectangle-extent x = record { start = x .start; end = x .end; top = x .top }

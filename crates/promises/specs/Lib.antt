@@ -1,0 +1,4 @@
+pub mod Packs
+pub mod Promise
+pub mod Relation
+pub mod Laws
