@@ -29,7 +29,7 @@ abbrev pub Agree : Sky → List Rect → Type 0
 Agree s ps = (c : ℕ) → c < s .columns → s .height c ≡ column ps c
 
 -- the largest height of a span is what a block there rests on
-pub largest-is : (s : Sky) (ps : List Rect) (a b y : ℕ) → a < b → b ≤ s .columns → Agree s ps → Largest s a b y → y ≡ highest ps a b
+largest-is : (s : Sky) (ps : List Rect) (a b y : ℕ) → a < b → b ≤ s .columns → Agree s ps → Largest s a b y → y ≡ highest ps a b
 largest-is s ps a b y l w agree m =
     let k = highest-of-columns ps a b l in
     largest-one s a b y (highest ps a b) m (record {
@@ -41,7 +41,7 @@ largest-is s ps a b y l w agree m =
     })
 
 -- a block that rests on the others, and the skyline raised to its top
-pub raised-agree : (s t : Sky) (ps : List Rect) (q : Rect) → Agree s ps → q .y ≡ highest ps (q .x) (right-edge q) → Raised s t (q .x) (right-edge q) (top q) → Agree t (q ∷ ps)
+raised-agree : (s t : Sky) (ps : List Rect) (q : Rect) → Agree s ps → q .y ≡ highest ps (q .x) (right-edge q) → Raised s t (q .x) (right-edge q) (top q) → Agree t (q ∷ ps)
 raised-agree s t ps q agree rests up c l =
     let same = agree c (omega (arith, up .columns)) in
     elim (cases-lt c (q .x)) [

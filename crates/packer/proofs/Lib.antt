@@ -4,3 +4,4 @@ pub mod Records
 pub mod Filling
 pub mod Present
 pub mod Refusing
+pub mod Showing

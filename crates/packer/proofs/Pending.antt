@@ -47,7 +47,7 @@ pub record Going (bs : List Block) (p : Plan) (es : List Spot) (ps : List Rect) 
 pub restacked : {bs : List Block} {p : Plan} {es os : List Spot} {ps : List Rect} → os ≡ es → Going bs p es ps → Going bs p os ps
 restacked {bs} {p} {es} {os} {ps} e g = subst (λ (xs : List Spot). Going bs p xs ps) (sym e) g
 
-pub put-length : (k x : ℕ) (es : List Spot) → k < 65535 → length (put k x es) ≡ suc (length es)
+put-length : (k x : ℕ) (es : List Spot) → k < 65535 → length (put k x es) ≡ suc (length es)
 put-length k x es h = ap length (cond-false _ es (record { block = k; left = x } ∷ es) (ne-eqb k 65535 (λ e. omega arith)))
 
 -- how many blocks the trees of the entries have
@@ -78,7 +78,7 @@ module _ {bs : List Block} {root : ℕ} {p : Plan} (rows : Stands-for bs root p)
       omega (arith, length-settle (p .sizes) ps (ahead (p .sizes) es (g .trees)), ap length (g .joins), length-packed p)
 
   -- the placed blocks and the entries are together no more than there are present blocks
-  pub going-length : {es : List Spot} {ps : List Rect} → Going bs p es ps → length ps + length es ≤ size (p .tree)
+  going-length : {es : List Spot} {ps : List Rect} → Going bs p es ps → length ps + length es ≤ size (p .tree)
   going-length {es} g = omega (arith, ahead-length g, pending-length es (g .trees) (g .pending))
 
   to-walk-ahead : (es : List Spot) (us : List Tree) → Pending bs es us → length (ahead (p .sizes) es us) ≤ length bs → to-walk bs es ≡ length (ahead (p .sizes) es us)
@@ -95,7 +95,7 @@ module _ {bs : List Block} {root : ℕ} {p : Plan} (rows : Stands-for bs root p)
         to-walk-ahead es us (q .1) (omega arith),
       )
 
-  pub to-walk-is : {es : List Spot} {ps : List Rect} → Going bs p es ps → length ps + to-walk bs es ≡ size (p .tree)
+  to-walk-is : {es : List Spot} {ps : List Rect} → Going bs p es ps → length ps + to-walk bs es ≡ size (p .tree)
   to-walk-is {es} g =
       omega (arith, ahead-length g, to-walk-ahead es (g .trees) (g .pending) (omega (arith, ahead-length g, rows .small)))
 

@@ -66,11 +66,11 @@ unfolding sum-below
 marked-more bs i = ap (marked bs) (add-one i)
 
 module _ (bs : List Block) (root : ℕ) (few : length bs ≤ 512) (sound : Sound bs root) where
-  pub marked-is : marked bs (length bs) ≡ size (plan-of bs root .tree)
+  marked-is : marked bs (length bs) ≡ size (plan-of bs root .tree)
   unfolding plan-of
   marked-is = sym (sum-same _ _ (length bs) (sound .1)) ∙ size-counted _ _ _ _ _ (holds few sound .spelt)
 
-  pub rows-stand : all-fit bs ≡ true → Stands-for bs root (plan-of bs root)
+  rows-stand : all-fit bs ≡ true → Stands-for bs root (plan-of bs root)
   unfolding plan-of
   rows-stand fit = record {
     few = few;

@@ -1,3 +1,4 @@
 pub mod Walks
 pub mod Places
 pub mod Gives
+pub mod Shows

@@ -4,6 +4,7 @@ ghost use lib.ListN.{length};
 ghost use Rattle.plan.specs.Sound.{plan-of};
 ghost use Rattle.plan.specs.Meaning.{rows, root-of};
 ghost use Rattle.packer.specs.Gives.{marked, Tested, Pack-gives};
+ghost use Rattle.packer.specs.Shows.{Pack-shows};
 use crate::placing::place_all;
 use crate::spots::Extent;
 use crate::spots::Spot;
@@ -51,7 +52,7 @@ fn tested_reach<S: Skyline>(
 }
 
 // Places the present blocks of a plan, each resting on those before it in depth-first order, and writes one record a block.
-pub fn pack<S: Skyline>(
+fn pack_plan<S: Skyline>(
     plan: &Plan,
     skyline: &mut S,
     walk: &mut [Spot],
@@ -62,4 +63,18 @@ pub fn pack<S: Skyline>(
     let width = tested_reach(plan, skyline, walk, places.len())?;
     let height = place_all(plan.blocks(), plan.root(), skyline, walk, places);
     Ok(Extent { width, height })
+}
+
+// Packs the plan in hand over a skyline in any state: `gives` says what it answers and leaves, `shows` what every accepted packing
+// shows, for every list of calls that led to the plan.
+pub fn pack<S: Skyline>(
+    plan: &Plan,
+    skyline: &mut S,
+    walk: &mut [Spot],
+    places: &mut [Placement],
+) -> Result<Extent, Refusal>
+    ensures gives { λ r. ⌜ Pack-gives (S·Skyline .meaning) (plan-of (rows (now (plan .entry))) (root-of (now (plan .entry)))) (now (skyline .entry)) (now (skyline .exit)) (now (walk .entry)) (now (walk .exit)) (now (places .entry)) (now (places .exit)) r ⌝ }
+    ensures shows { λ r. ⌜ Pack-shows (plan-of (rows (now (plan .entry))) (root-of (now (plan .entry)))) (S·Skyline .meaning (now (skyline .exit))) (now (places .exit)) r ⌝ }
+{
+    pack_plan(plan, skyline, walk, places)
 }

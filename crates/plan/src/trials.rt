@@ -36,6 +36,19 @@ fn counted(kept: u32, edited: bool) -> u32
     if edited { kept.saturating_add(1) } else { kept }
 }
 
+// The plan settled, with the memory of the other one for the next trial.
+fn settle(plan: Plan, other: Plan, kept: u32) -> Settled
+    ensures plan { λ r. ⌜ r .plan ≡ plan ⌝ }
+    ensures kept { λ r. ⌜ r .kept ≡ kept ⌝ }
+{
+    let Plan { table } = other;
+    Settled {
+        plan,
+        spare: table,
+        kept,
+    }
+}
+
 impl Settled {
     // A new plan, with no blocks, and memory for 512.
     pub fn new(heap: Global) -> Result<Settled, AllocError>
@@ -148,12 +161,7 @@ impl Tried {
             kept,
             edited,
         } = self;
-        let Plan { table } = before;
-        Settled {
-            plan,
-            spare: table,
-            kept: counted(kept, edited),
-        }
+        settle(plan, before, counted(kept, edited))
     }
 
     // Ends the trial with the plan from before it.
@@ -168,11 +176,6 @@ impl Tried {
             kept,
             edited: _,
         } = self;
-        let Plan { table } = plan;
-        Settled {
-            plan: before,
-            spare: table,
-            kept,
-        }
+        settle(before, plan, kept)
     }
 }

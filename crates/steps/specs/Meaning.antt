@@ -7,10 +7,7 @@ use native.Mathlib.Nat.{min-le-right}
 use lib.Dec.{eqb}
 use lib.ListN.{length, take}
 use denote.Ref.{now}
-use Rattle.std.specs.declared.result.Result.{Result}
-use Rattle.std.specs.declared.result.Result.the-variants.{Ok, Err}
-use Rattle.rules.specs.declared.refusals.Refusal.{Refusal}
-use Rattle.rules.specs.Skylines.{Sky, Within, None-above, Raise-refused}
+use Rattle.rules.specs.Skylines.{Sky}
 use Rattle.steps.specs.declared.runs.Run.{Run}
 use Rattle.steps.specs.declared.steps.Steps.{Steps}
 use Rattle.steps.specs.Order.{height-at}
@@ -37,11 +34,6 @@ sky-of s = record {
   columns-bounded = s .narrow;
   raises-bounded = min-le-right ((length (now (s .runs)) - 1) / 2) 65536;
 }
-
--- what the tests of a raise from a to b to h answer: Ok if it passes all, else the first refusal
-abbrev pub Raise-tested : Sky → ℕ → ℕ → ℕ → Result (Unit {0}) Refusal → Type 0
-Raise-tested s a b h (Ok u) = Within s a b × (h ≤ 134217728) × None-above s a b h × (0 < s .left)
-Raise-tested s a b h (Err e) = Raise-refused s a b h e
 
 -- heights before and after a run is put in: its columns have its top, the others their height
 pub record Put (was is : ℕ → ℕ) (raised : Run) : Type 0 where

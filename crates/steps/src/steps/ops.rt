@@ -3,14 +3,15 @@ ghost use mathlib.Core.Path.{_≡_};
 ghost use Prim.Native.Nat.{ℕ, _+_, _*_, _<_, _≤_, min};
 ghost use lib.ListN.{length};
 ghost use Rattle.rules.specs.Skylines.{Fresh};
-ghost use Rattle.steps.specs.Meaning.{sky-of, columns-over, raises-over, Raise-tested, Put};
+ghost use Rattle.steps.specs.Meaning.{sky-of, columns-over, raises-over, Put};
 use super::Steps;
 use crate::runs::Run;
 use crate::runs::RunSpanned;
 use crate::splice::pieces_of;
 use crate::splice::replace;
 use rules::refusals::Refusal;
-use skyline::skylines::GREATEST_HEIGHT;
+use skyline::checks::test_raise;
+use skyline::checks::test_span;
 use skyline::skylines::MOST_COLUMNS;
 use skyline::skylines::MOST_RAISES;
 use skyline::skylines::Skyline;
@@ -39,15 +40,14 @@ pub impl Skyline for Steps<'_> as StepsSkyline {
     }
 
     fn highest(&self, a: u32, b: u32) -> Result<u32, Refusal> {
-        if a >= b || b > self.columns {
-            return Err(Refusal::WrongSpan);
-        }
+        test_span(a, b, self.columns)?;
         let (first, last) = self.runs_over(a, b);
         Ok(highest_top(&self.runs[first..last + 1], a, b))
     }
 
     fn raise(&mut self, a: u32, b: u32, h: u32) -> Result<(), Refusal> {
-        self.test_raise(a, b, h)?;
+        let highest = self.highest(a, b)?;
+        test_raise(highest, h, self.left)?;
         self.left -= 1;
         self.put(Run {
             start: a,
@@ -103,23 +103,6 @@ impl<'a> Steps<'a> {
         self.used = 1;
         self.columns = columns;
         self.left = left;
-    }
-
-    // The tests of a raise, in their order.
-    fn test_raise(&self, a: u32, b: u32, h: u32) -> Result<(), Refusal>
-        ensures { λ r. ⌜ Raise-tested (sky-of (now (self .entry))) a b h r ⌝ }
-    {
-        let highest = self.highest(a, b)?;
-        if h > GREATEST_HEIGHT {
-            return Err(Refusal::RaisedTooHigh);
-        }
-        if h < highest {
-            return Err(Refusal::BelowHighest);
-        }
-        if self.left == 0 {
-            return Err(Refusal::NoRaiseLeft);
-        }
-        Ok(())
     }
 
     // Puts a raised run in the place of those whose columns it has. There may be two more runs then.

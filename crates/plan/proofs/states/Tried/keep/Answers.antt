@@ -1,4 +1,4 @@
-use mathlib.Core.Path.{refl}
+use mathlib.Core.Path.{ap, _∙_}
 use Rattle.theorems.proofs.Following.{follows-keep}
 use Rattle.plan.specs.Meaning.{meant, kept-next}
 use Rattle.plan.proofs.states.Tried.keep.Needs as need
@@ -6,5 +6,6 @@ use Rattle.plan.proofs.states.Tried.keep.Needs as need
 pub returns : need.returns
 returns c =
     let t = c .args .self in
-    let kept = c .counted .ensures in
-    record { plan = refl; kept = kept; told = follows-keep (meant (t .plan .table)) (meant (t .before .table)) (meant (t .plan .table)) (kept-next t) (t .kept) (c .counted .result) refl kept }
+    let plan = ap (λ p. meant (p .table)) (c .settle .ensures .plan) in
+    let kept = c .settle .ensures .kept ∙ c .counted .ensures in
+    record { plan = plan; kept = kept; told = follows-keep (meant (t .plan .table)) (meant (t .before .table)) _ (kept-next t) (t .kept) _ plan kept }

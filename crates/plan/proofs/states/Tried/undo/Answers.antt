@@ -1,4 +1,4 @@
-use mathlib.Core.Path.{refl}
+use mathlib.Core.Path.{ap}
 use Rattle.theorems.proofs.Following.{follows-undo}
 use Rattle.plan.specs.Meaning.{meant, kept-next}
 use Rattle.plan.proofs.states.Tried.undo.Needs as need
@@ -6,8 +6,6 @@ use Rattle.plan.proofs.states.Tried.undo.Needs as need
 pub returns : need.returns
 returns c =
     let t = c .args .self in
-    record {
-      plan = refl;
-      kept = refl;
-      told = follows-undo (meant (t .plan .table)) (meant (t .before .table)) (meant (t .before .table)) (kept-next t) (t .kept) (t .kept) refl refl;
-    }
+    let plan = ap (λ p. meant (p .table)) (c .settle .ensures .plan) in
+    let kept = c .settle .ensures .kept in
+    record { plan = plan; kept = kept; told = follows-undo (meant (t .plan .table)) (meant (t .before .table)) _ (kept-next t) (t .kept) _ plan kept }
