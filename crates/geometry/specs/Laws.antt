@@ -65,6 +65,7 @@ pub record Edges-follow (p : Plan) : Type 0 where
   pub left : (q r : Rect) → Among q (packed p) → Among r (packed p) → Child Left (p .tree) (q .block) (r .block) → r .x ≡ right-edge q
   pub right : (q r : Rect) → Among q (packed p) → Among r (packed p) → Child Right (p .tree) (q .block) (r .block) → r .x ≡ q .x
 
+-- so it is in every plan with each present block once
 abbrev pub Edges-of-children : Type 0
 Edges-of-children = (p : Plan) → Whole p → Edges-follow p
 
@@ -76,5 +77,6 @@ pub record Places-present (p : Plan) : Type 0 where
   pub widths : (q : Rect) → Among q (packed p) → q .width ≡ size-at (p .sizes) (q .block) .width
   pub heights : (q : Rect) → Among q (packed p) → q .height ≡ size-at (p .sizes) (q .block) .height
 
+-- so it is in every plan
 abbrev pub Packed-blocks : Type 0
 Packed-blocks = (p : Plan) → Places-present p

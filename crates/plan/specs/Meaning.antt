@@ -20,6 +20,7 @@ meant t = plan-of (vec-items (t .blocks)) (t .root)
 abbrev pub rows : Held → List Block
 rows p = vec-items (p .table .blocks)
 
+-- the root's number, 65,535 for none
 abbrev pub root-of : Held → ℕ
 root-of p = p .table .root
 
@@ -27,6 +28,7 @@ root-of p = p .table .root
 abbrev pub settled-plan : Settled → Plan
 settled-plan s = meant (s .plan .table)
 
+-- its count of kept trials
 abbrev pub settled-kept : Settled → ℕ
 settled-kept s = s .kept
 
@@ -34,6 +36,7 @@ settled-kept s = s .kept
 abbrev pub tried-plan : Tried → Plan
 tried-plan t = meant (t .plan .table)
 
+-- the plan that undo goes back to
 abbrev pub before-plan : Tried → Plan
 before-plan t = meant (t .before .table)
 
@@ -45,6 +48,7 @@ is-empty t = not (t .edited)
 abbrev pub tried-kept : Tried → ℕ
 tried-kept t = t .kept
 
+-- the count that keep leads to
 abbrev pub kept-next : Tried → ℕ
 kept-next t = cond (t .edited) (min 4294967295 (t .kept + 1)) (t .kept)
 
@@ -52,5 +56,6 @@ kept-next t = cond (t .edited) (min 4294967295 (t .kept + 1)) (t .kept)
 abbrev pub Settled-by : List Call → Settled → Type 0
 Settled-by cs s = Settles cs (settled-plan s) (settled-kept s)
 
+-- an open trial follows a list of calls
 abbrev pub Tried-by : List Call → Tried → Type 0
 Tried-by cs t = Tries cs (tried-plan t) (before-plan t) (kept-next t) (tried-kept t)

@@ -23,5 +23,6 @@ loaded-row s l c = record { size = s; letter = letter-or-free l; left = c .left;
 abbrev pub row-at : List Size → List ℕ → List Children → ℕ → Block
 row-at ss ls cs i = loaded-row (size-at ss i) (getD ls i 0) (getD cs i (record { left = 0; right = 0 }))
 
+-- a row for each size
 abbrev pub loaded-rows : List Size → List ℕ → List Children → List Block
 loaded-rows ss ls cs = map (row-at ss ls cs) (counting 0 (length ss))

@@ -27,6 +27,7 @@ unfoldable pub sizes-fit : List Size → Bool
 sizes-fit [] = true
 sizes-fit (s ∷ ss) = size-fits s && sizes-fit ss
 
+-- every side of the table is in range
 abbrev pub all-fit : List Block → Bool
 all-fit bs = sizes-fit (map (λ b. b .size) bs)
 

@@ -42,6 +42,7 @@ pub record Pruned-alike (cs : List Call) : Type 0 where
   pub plan : book-plan (book (pruned cs)) ≡ book-plan (book cs)
   pub packing : packed (book-plan (book (pruned cs))) ≡ packed (book-plan (book cs))
 
+-- so it is for every list of calls that the states allow
 abbrev pub Pruned-promise : Type 0
 Pruned-promise = (cs : List Call) → state-after cs ≢ out-of-turn → Pruned-alike cs
 

@@ -56,6 +56,7 @@ pub record Highest-top (n : ℕ) (rs : List Placement) (c h : ℕ) : Type 0 wher
 abbrev pub blocks-of : List Call → ℕ
 blocks-of cs = block-count (book cs .loaded)
 
+-- the tree in the book of the calls
 abbrev pub tree-of : List Call → Tree
 tree-of cs = book-plan (book cs) .tree
 

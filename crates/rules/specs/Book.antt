@@ -26,9 +26,11 @@ pub record Book : Type 0 where
   pub kept : List Edit
   pub open-edit : Option Edit
 
+-- a new plan, and no edits
 abbrev pub new-book : Book
 new-book = record { loaded = new-plan; kept = []; open-edit = None }
 
+-- the edit, if there is one
 abbrev pub as-list : Option Edit → List Edit
 as-list None = []
 as-list (Some e) = e ∷ []
@@ -73,6 +75,7 @@ fed b keep = record { loaded = b .loaded; kept = in-force b; open-edit = None }
 fed b undo = record { loaded = b .loaded; kept = b .kept; open-edit = None }
 fed b pack = b
 
+-- the book after a list of calls, from b on
 abbrev pub book-from : Book → List Call → Book
 book-from b [] = b
 book-from b (c ∷ cs) = book-from (fed b c) cs
@@ -103,14 +106,16 @@ next tried undo = settled
 next tried pack = tried
 next out-of-turn c = out-of-turn
 
+-- the state after a list of calls, from s on
 abbrev pub state-from : State → List Call → State
 state-from s [] = s
 state-from s (c ∷ cs) = state-from (next s c) cs
 
+-- the same from a new plan on
 abbrev pub state-after : List Call → State
 state-after cs = state-from settled cs
 
--- A settled plan follows the calls: they leave it settled, it is the plan in their book, and so is its count.
+-- A settled plan follows the calls: they leave it settled, it is the plan in their book, and its count is that of their book.
 pub record Settles (cs : List Call) (plan : Plan) (kept : ℕ) : Type 0 where
   pub state : state-after cs ≡ settled
   pub in-book : plan ≡ book-plan (book cs)

@@ -18,6 +18,7 @@ use Rattle.rules.specs.Plans.{Plan, block-count, present, bare, size-at}
 abbrev pub turned : Size → Size
 turned s = record { width = s .height; height = s .width }
 
+-- the plan with another tree
 abbrev pub with-tree : Plan → Tree → Plan
 with-tree p t = record { sizes = p .sizes; letters = p .letters; tree = t }
 

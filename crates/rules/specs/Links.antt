@@ -8,10 +8,11 @@ use lib.ListN.{length, getD}
 use Rattle.rules.specs.declared.blocks.Children.{Children}
 use Rattle.rules.specs.Trees.{Tree, empty, node}
 
--- the left and the right child of block i
+-- the left child of block i
 abbrev pub left-of : List Children → ℕ → ℕ
 left-of cs i = getD cs i (record { left = 0; right = 0 }) .left
 
+-- the right child of block i
 abbrev pub right-of : List Children → ℕ → ℕ
 right-of cs i = getD cs i (record { left = 0; right = 0 }) .right
 

@@ -45,19 +45,24 @@ link-fits n k = ltb k n || eqb k 65535
 abbrev pub wrong-size : List Size → ℕ → Bool
 wrong-size ss i = not (size-fits (size-at ss i))
 
+-- something was found
 abbrev pub is-some : {A : Type 0} → Option A → Bool
 is-some (Some x) = true
 is-some None = false
 
+-- block i's letter is none of the five
 abbrev pub wrong-letter : List ℕ → ℕ → Bool
 wrong-letter ls i = not (is-some (letter-of (getD ls i 0)))
 
+-- a child of block i is neither a block nor 65,535
 abbrev pub wrong-children : List Children → ℕ → Bool
 wrong-children cs i = not (link-fits (length cs) (left-of cs i) && link-fits (length cs) (right-of cs i))
 
+-- block k is child twice, or child and root
 abbrev pub named-twice : List Children → ℕ → ℕ → Bool
 named-twice cs root k = ltb 1 (named cs root k)
 
+-- block k does not stand in the tree that the links spell from the root on
 abbrev pub unreached : List Children → ℕ → ℕ → Bool
 unreached cs root k = eqb (count k (tree-of cs root)) 0
 

@@ -27,9 +27,11 @@ pub record Rect : Type 0 where
   pub width : ℕ
   pub height : ℕ
 
+-- x plus width
 abbrev pub right-edge : Rect → ℕ
 right-edge p = p .x + p .width
 
+-- y plus height
 abbrev pub top : Rect → ℕ
 top p = p .y + p .height
 

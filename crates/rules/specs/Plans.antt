@@ -23,9 +23,11 @@ new-plan = record { sizes = []; letters = []; tree = empty }
 unfoldable pub block-count : Plan → ℕ
 block-count p = length (p .sizes)
 
+-- the size of block i
 abbrev pub size-at : List Size → ℕ → Size
 size-at sizes i = getD sizes i (record { width = 0; height = 0 })
 
+-- the letter of block i
 abbrev pub letter-at : List Letter → ℕ → Letter
 letter-at letters i = getD letters i Free
 
@@ -42,6 +44,7 @@ bare (node i l r) = false
 abbrev pub side-fits : ℕ → Bool
 side-fits s = leb 1 s && leb s 131072
 
+-- both sides are 1 to 131,072
 abbrev pub size-fits : Size → Bool
 size-fits s = side-fits (s .width) && side-fits (s .height)
 

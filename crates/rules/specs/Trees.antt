@@ -37,7 +37,7 @@ unfoldable pub swap : ℕ → ℕ → Tree → Tree
 swap i j empty = empty
 swap i j (node k l r) = node (exchange i j k) (swap i j l) (swap i j r)
 
--- What takes the place of a block that is taken out, of its two subtrees: the one that there is, or
+-- What takes the place of a block that is taken out, of its two subtrees: nothing if there is none, the one that there is, or
 -- the right child above both subtrees, itself taken out of the right one by this same rule.
 unfoldable pub join : Tree → Tree → Tree
 join l empty = l
@@ -49,16 +49,17 @@ unfoldable pub take-out : ℕ → Tree → Tree
 take-out i empty = empty
 take-out i (node k l r) = cond (eqb k i) (join l r) (node k (take-out i l) (take-out i r))
 
--- the left and the right subtree of a block under which i is put in on that side: i stands over what was there
+-- the left subtree of a block under which i is put in on side s: if that is the left, i stands over what was there
 abbrev pub left-under : Side → ℕ → Tree → Tree
 left-under Left i l = node i l empty
 left-under Right i l = l
 
+-- the right subtree of that block
 abbrev pub right-under : Side → ℕ → Tree → Tree
 right-under Left i r = r
 right-under Right i r = node i empty r
 
--- the tree with i put in under j
+-- the tree with i put in under j on side s
 unfoldable pub hang : Side → ℕ → ℕ → Tree → Tree
 hang s i j empty = empty
 hang s i j (node k l r) =

@@ -10,12 +10,12 @@ use Rattle.std.specs.shelf.Text.{sameBytes}
 use Rattle.rules.specs.declared.edits.Edit.{Edit}
 use Rattle.rules.specs.declared.edits.Edit.the-variants.{Turn, Swap, TakeOut, PutIn, Move}
 use Rattle.script.specs.declared.line.Line.{Line}
-use Rattle.script.specs.declared.line.Line.the-variants.{Skipped, Block, Size, Letter, Pair, Load, Test, Begin, Keep, Undo, Report, Make, Clear, Highest, Raise, NotUnderstood}
+use Rattle.script.specs.declared.line.Line.the-variants.{Skipped, Block, Size, Letter, Pair, Load, Test, Begin, Keep, Undo, Report, Pack, Make, Clear, Highest, Raise, NotUnderstood}
 use Rattle.script.specs.declared.line.Kind.{Kind}
 use Rattle.script.specs.declared.line.Kind.the-variants.{Columns, Steps, Placed}
 use Rattle.words.specs.Words.{Word, words, byte-of}
 use Rattle.words.specs.Numbers.{number-of}
-use Rattle.words.specs.Arguments.{argument, end, one-byte, one-block, two-blocks, two-numbers, three-numbers, blocks-and-side, one-up-to, block-and-up-to, number-and-up-to}
+use Rattle.words.specs.Arguments.{argument, end, one-byte, one-block, two-blocks, two-numbers, three-numbers, blocks-and-side, one-up-to, two-up-to, block-and-up-to, number-and-up-to}
 
 -- what f makes of the arguments, if they have their form
 abbrev pub made : {A B : Type 0} → (A → B) → Option A → Option B
@@ -106,13 +106,18 @@ highest-line args = made (λ p. Highest (p .0) (p .1)) (two-numbers args)
 abbrev pub raise-line : List Word → Option Line
 raise-line args = made (λ p. Raise (p .0) (p .1) (p .2)) (three-numbers args)
 
+-- pack WALK PLACES, each at most 100,000
+abbrev pub pack-line : List Word → Option Line
+pack-line args = made (λ p. Pack (p .0) (p .1)) (two-up-to 100000 args)
+
 -- a call on the skyline; clear stands alone
 abbrev pub skyline-line : Word → List Word → Option Line
 skyline-line name args =
     cond (sameBytes name (codes "skyline")) (make-line args)
     (cond (sameBytes name (codes "clear")) (end Clear args)
     (cond (sameBytes name (codes "highest")) (highest-line args)
-    (cond (sameBytes name (codes "raise")) (raise-line args) None)))
+    (cond (sameBytes name (codes "raise")) (raise-line args)
+    (cond (sameBytes name (codes "pack")) (pack-line args) None))))
 
 -- the first, if it says something, else the second
 abbrev pub or-else : Option Line → Option Line → Option Line

@@ -27,6 +27,8 @@ pub enum Line {
     Keep,
     Undo,
     Report(u16),
+    // the number of walk records, and of placement records
+    Pack(u32, u32),
     // a new skyline
     Make(Kind),
     Clear,

@@ -1,6 +1,6 @@
 // The calls on a skyline.
 ghost use mathlib.Core.Path.{_≡_};
-ghost use Rattle.script.specs.Grammar.{kind-named, make-line, highest-line, raise-line, skyline-line};
+ghost use Rattle.script.specs.Grammar.{kind-named, make-line, highest-line, raise-line, pack-line, skyline-line};
 ghost use Rattle.words.specs.Words.{words};
 use crate::line::Kind;
 use crate::line::Line;
@@ -9,10 +9,11 @@ use words::arguments::number_and_up_to;
 use words::arguments::one_up_to;
 use words::arguments::three_numbers;
 use words::arguments::two_numbers;
+use words::arguments::two_up_to;
 use words::split::next_word;
 use words::word::is;
 
-// The most columns of a skyline of columns, and the most records of another, that a script may ask for.
+// The most columns of a skyline of columns, and the most records of any other kind, that a script may ask for.
 const MOST_COLUMNS: u32 = 1_000_000;
 
 const MOST_RECORDS: u32 = 100_000;
@@ -71,6 +72,15 @@ fn raise_line(args: &[u8]) -> Option<Line>
     }
 }
 
+fn pack_line(args: &[u8]) -> Option<Line>
+    ensures { λ r. ⌜ r ≡ pack-line (words (now (args .entry))) ⌝ }
+{
+    match two_up_to(args, MOST_RECORDS) {
+        Some((walk, places)) => Some(Line::Pack(walk, places)),
+        None => None,
+    }
+}
+
 // A call on the skyline, by its name.
 pub(crate) fn skyline_line(name: &[u8], args: &[u8]) -> Option<Line>
     ensures { λ r. ⌜ r ≡ skyline-line (now (name .entry)) (words (now (args .entry))) ⌝ }
@@ -83,6 +93,8 @@ pub(crate) fn skyline_line(name: &[u8], args: &[u8]) -> Option<Line>
         highest_line(args)
     } else if is(name, b"raise") {
         raise_line(args)
+    } else if is(name, b"pack") {
+        pack_line(args)
     } else {
         None
     }

@@ -9,7 +9,7 @@ use Rattle.rules.specs.declared.blocks.Letter.the-variants.{Free, Top, Bottom, 
 use Rattle.rules.specs.Refusals.{refusal-text}
 use Rattle.plan.specs.declared.reports.Report.{Report}
 use Rattle.session.specs.declared.answers.Answer.{Answer}
-use Rattle.session.specs.declared.answers.Answer.the-variants.{Loaded, Allowed, Begun, BegunEmpty, Kept, Undone, Reported, Refused, NotAllowed, Skyline, Highest}
+use Rattle.session.specs.declared.answers.Answer.the-variants.{Loaded, Allowed, Begun, BegunEmpty, Kept, Undone, Reported, Refused, NotAllowed, Skyline, Highest, Packed, At}
 
 -- a letter by its byte
 abbrev pub letter-name : Letter → List ℕ
@@ -42,5 +42,9 @@ answer-text (Undone n) = codes "undone " ++ decimal n
 answer-text (Reported r) = report-text r
 answer-text (Skyline c all left) = codes "skyline " ++ (decimal c ++ (codes " " ++ (decimal all ++ (codes " " ++ decimal left))))
 answer-text (Highest h) = codes "highest " ++ decimal h
+answer-text (Packed w h) = codes "packed " ++ (decimal w ++ (codes " " ++ decimal h))
+answer-text (At i p) =
+    codes "at " ++ (decimal i ++ (codes " " ++ (decimal (p .x) ++ (codes " " ++ (decimal (p .y) ++ (codes " " ++
+    (decimal (p .width) ++ (codes " " ++ decimal (p .height)))))))))
 answer-text (Refused r) = refusal-text r
 answer-text NotAllowed = codes "not allowed"

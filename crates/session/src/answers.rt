@@ -1,5 +1,6 @@
 // What a call answered.
 use plan::Report;
+use rules::placements::Placement;
 use rules::refusals::Refusal;
 
 #[derive(Clone, Copy)]
@@ -14,6 +15,10 @@ pub enum Answer {
     // C, R and r of a skyline
     Skyline(u32, u32, u32),
     Highest(u32),
+    // the width and the height of a packed plan
+    Packed(u32, u32),
+    // a block's number and its record
+    At(usize, Placement),
     Refused(Refusal),
     NotAllowed,
 }

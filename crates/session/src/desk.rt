@@ -1,6 +1,7 @@
 // The plan in hand, settled or with a trial open.
 use crate::answers::Answer;
 use crate::lists::Lists;
+use plan::Plan;
 use plan::Report;
 use plan::Settled;
 use plan::Tried;
@@ -110,6 +111,14 @@ fn tried_call(trial: Tried, line: Line) -> (Desk, Answer) {
 }
 
 impl Desk {
+    // The plan in hand.
+    pub fn plan(&self) -> &Plan {
+        match self {
+            Desk::Settled(plan) => plan.plan(),
+            Desk::Tried(trial) => trial.plan(),
+        }
+    }
+
     // A call on the plan in hand: the desk after it, and what it answered.
     pub fn call(
         self,

@@ -9,6 +9,7 @@ ghost use Rattle.std.specs.Vec.{made};
 mod answers;
 mod desk;
 mod lists;
+mod packs;
 mod skies;
 mod texts;
 
@@ -16,6 +17,7 @@ use columns::Columns;
 use columns::ColumnsSkyline;
 use desk::Desk;
 use lists::Lists;
+use packs::pack_lines;
 use placed::Placed;
 use placed::PlacedSkyline;
 use placed::rectangles::Rectangle;
@@ -41,7 +43,7 @@ struct Work<'a> {
     rest: &'a [u8],
 }
 
-// Performs one line: the desk after it.
+// Performs one line on the plan and the skyline in hand: the desk after it.
 fn step<S: Skyline>(
     rt: &LibcRuntime,
     skyline: &mut S,
@@ -56,6 +58,7 @@ fn step<S: Skyline>(
         Line::Size(size) => lists.sizes.push(size)?,
         Line::Letter(letter) => lists.letters.push(letter)?,
         Line::Pair(children) => lists.children.push(children)?,
+        Line::Pack(walk, places) => pack_lines(rt, skyline, &desk, walk, places)?,
         Line::NotUnderstood => println!(rt, "line {number}: not understood")?,
         call => {
             if let Some(answer) = skies::call(skyline, call) {

@@ -59,6 +59,12 @@ pub impl fmt::Display for Answer as AnswerDisplay {
             Answer::Reported(report) => write!(f, "{}", ReportLine { report }),
             Answer::Skyline(c, all, left) => write!(f, "skyline {c} {all} {left}"),
             Answer::Highest(h) => write!(f, "highest {h}"),
+            Answer::Packed(width, height) => write!(f, "packed {width} {height}"),
+            Answer::At(i, place) => {
+                let (x, y) = (place.x, place.y);
+                let (width, height) = (place.width, place.height);
+                write!(f, "at {i} {x} {y} {width} {height}")
+            }
             Answer::Refused(r) => write!(f, "{r}"),
             Answer::NotAllowed => write!(f, "not allowed"),
         }

@@ -142,7 +142,7 @@ repoint L R L′ R′ n i t x (node k p q) h a z e s =
     let sq = repoint L R L′ R′ n i t (R k) q h a zq (λ m b c. e m b (omega (arith, parts-le m k p q))) (s .3) in
     (s .0, s .1, subst (λ w. Spells L′ R′ n w p) (sym fl) sp, subst (λ w. Spells L′ R′ n w q) (sym fr) sq)
 
--- the tree above the block
+-- a tree that holds block i, or shares no block with the right subtree tr of i
 abbrev Apart : ℕ → Tree → Tree → Type 0
 Apart i tr s = (0 < count i s) ⊎ ((m : ℕ) → count m s + count m tr ≤ 1)
 

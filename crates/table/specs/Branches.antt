@@ -17,6 +17,7 @@ abbrev pub child : Side → Block → ℕ
 child Left b = b .left
 child Right b = b .right
 
+-- the other side
 abbrev pub opposite : Side → Side
 opposite Left = Right
 opposite Right = Left
@@ -26,6 +27,7 @@ unfoldable pub branch : Side → List Block → ℕ → ℕ → List ℕ
 branch s bs zero i = []
 branch s bs (suc f) i = cond (ltb i (length bs)) (i ∷ branch s bs f (child s (at bs i))) []
 
+-- the whole branch from the link i on
 abbrev pub branch-of : Side → List Block → ℕ → List ℕ
 branch-of s bs i = branch s bs (length bs) i
 
@@ -49,6 +51,7 @@ foot-kept s i bs root =
     childless s bs (branch-of (opposite s) bs (end-of (branch-of s bs root)))
     && among i (branch-of (opposite s) bs (end-of (branch-of s bs root)))
 
+-- whether block i keeps the letter, by the links
 abbrev pub kept-by-links : Letter → ℕ → List Block → ℕ → Bool
 kept-by-links Free i bs root = true
 kept-by-links Bottom i bs root = among i (branch-of Left bs root)

@@ -20,9 +20,11 @@ blank = record { size = record { width = 0; height = 0 }; letter = Free; left = 
 abbrev pub at : List Block → ℕ → Block
 at bs i = getD bs i blank
 
+-- the left link of row i
 abbrev pub lefts : List Block → ℕ → ℕ
 lefts bs i = at bs i .left
 
+-- the right link of row i
 abbrev pub rights : List Block → ℕ → ℕ
 rights bs i = at bs i .right
 
@@ -47,9 +49,11 @@ linked l r b = record { size = b .size; letter = b .letter; left = l; right = r;
 abbrev pub relinked : (ℕ → ℕ) → Block → Block
 relinked f b = linked (f (b .left)) (f (b .right)) b
 
+-- the table has a row i
 abbrev pub within : ℕ → List Block → Bool
 within i bs = ltb i (length bs)
 
+-- it has both
 abbrev pub both-within : ℕ → ℕ → List Block → Bool
 both-within i j bs = within i bs && within j bs
 
@@ -70,7 +74,8 @@ swapped i j bs = cond (both-within i j bs) (crossed i j (map (relinked (exchange
 abbrev pub point : ℕ → ℕ → ℕ → ℕ
 point i t k = cond (eqb k i) t k
 
--- l goes under j as its left child, and what stood there goes on down the right children, at most f of them
+-- l goes under j as its left child, and what stood there goes on down the right children, at most f of them; at the last one,
+-- which has no right child, what stood there becomes the right child
 unfoldable pub lowered : ℕ → ℕ → ℕ → List Block → List Block
 lowered zero l j bs = bs
 lowered (suc f) l j bs =
@@ -84,6 +89,7 @@ lowered (suc f) l j bs =
 abbrev pub heir : ℕ → ℕ → ℕ
 heir l r = cond (eqb r 65535) l r
 
+-- the table in which the subtrees at l and r are joined
 abbrev pub joined : ℕ → ℕ → List Block → List Block
 joined l r bs = cond (eqb r 65535) bs (cond (eqb l 65535) bs (lowered (length bs) l r bs))
 
@@ -91,6 +97,7 @@ joined l r bs = cond (eqb r 65535) bs (cond (eqb l 65535) bs (lowered (length bs
 abbrev pub cleared : Block → Block
 cleared b = record { size = b .size; letter = b .letter; left = 65535; right = 65535; present = false }
 
+-- the table without i, whose children are l and r
 abbrev pub taken-by : ℕ → ℕ → ℕ → List Block → List Block
 taken-by i l r bs =
     set (map (relinked (point i (heir l r))) (joined l r bs)) i (cleared (at (map (relinked (point i (heir l r))) (joined l r bs)) i))
@@ -99,6 +106,7 @@ taken-by i l r bs =
 abbrev pub taken : ℕ → List Block → List Block
 taken i bs = cond (within i bs) (taken-by i (at bs i .left) (at bs i .right) bs) bs
 
+-- the root of the table without i
 abbrev pub taken-root : ℕ → ℕ → List Block → ℕ
 taken-root i root bs = cond (within i bs) (point i (heir (at bs i .left) (at bs i .right)) root) root
 
@@ -111,13 +119,16 @@ abbrev pub below-by : Side → Block → Block → Block
 below-by Left c b = hung (c .left) 65535 b
 below-by Right c b = hung 65535 (c .right) b
 
+-- the row of a block under which i is put in
 abbrev pub above-by : Side → ℕ → Block → Block
 above-by Left i c = linked i (c .right) c
 above-by Right i c = linked (c .left) i c
 
+-- the table with i put in under j
 abbrev pub under : ℕ → ℕ → Side → List Block → List Block
 under i j s bs = set (set bs i (below-by s (at bs j) (at bs i))) j (above-by s i (at bs j))
 
+-- the table with i alone in the tree
 abbrev pub alone : ℕ → List Block → List Block
 alone i bs = set bs i (hung 65535 65535 (at bs i))
 
@@ -126,10 +137,11 @@ abbrev pub put : ℕ → ℕ → Side → ℕ → List Block → List Block
 put i j s root bs =
     cond (within i bs) (cond (eqb root 65535) (alone i bs) (cond (within j bs) (under i j s bs) bs)) bs
 
+-- the root of the table with i put in
 abbrev pub put-root : ℕ → ℕ → List Block → ℕ
 put-root i root bs = cond (within i bs) (cond (eqb root 65535) i root) root
 
--- i is not in the tree, and j is, unless the tree is empty
+-- i is a row and not in the tree, and j is in it, unless the tree is empty
 pub record Fits-in (i j : ℕ) (bs : List Block) (t : Tree) : Type 0 where
   pub known : i < length bs
   pub absent : count i t ≡ 0

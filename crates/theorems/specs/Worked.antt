@@ -163,6 +163,7 @@ bent-mirror = node 0 empty (node 1 (node 2 (leaf 4) (leaf 3)) empty)
 abbrev pub straight-mirror : Tree
 straight-mirror = node 0 empty (node 1 (node 2 (leaf 4) empty) empty)
 
+-- each letter kept and broken, and the bytes of the letters
 pub record Letter-cases : Type 0 where
   pub b-kept : letter-kept Bottom 1 bent ≡ true
   pub b-broken : letter-kept Bottom 2 bent ≡ false
@@ -188,6 +189,7 @@ two s ls r w = record { sizes = a ∷ s ∷ []; letters = ls; children = pair 1 
 abbrev pub nothing : ℕ → Given
 nothing r = record { sizes = []; letters = []; children = []; root = r; walk = 0 }
 
+-- each test of a load, with later faults beside it that do not show
 pub record Load-cases : Type 0 where
   pub lengths : load-refusal (two (size 0 0) (70 ∷ []) 5 1) ≡ Some LengthsDiffer
   pub memory : load-refusal (two (size 0 0) (71 ∷ 71 ∷ []) 5 1) ≡ Some MemoryTooShort
@@ -206,6 +208,7 @@ pub record Load-cases : Type 0 where
 abbrev pub four-out : Plan
 four-out = edited (TakeOut 4) K
 
+-- each test of the edits, in its order
 pub record Edit-cases : Type 0 where
   pub no-first : edit-refusal four-out (Swap 5 6) ≡ Some (NoSuchBlock 5)
   pub no-second : edit-refusal four-out (Move 4 5 Left) ≡ Some (NoSuchBlock 5)

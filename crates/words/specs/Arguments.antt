@@ -50,6 +50,10 @@ blocks-and-side = argument block-of (λ i. argument block-of (λ j. argument sid
 abbrev pub one-up-to : ℕ → List Word → Option ℕ
 one-up-to most = argument (number-up-to most) (λ n. end n)
 
+-- two numbers, each at most so large
+abbrev pub two-up-to : ℕ → List Word → Option (ℕ × ℕ)
+two-up-to most = argument (number-up-to most) (λ m. argument (number-up-to most) (λ n. end (m, n)))
+
 -- a block, and a number at most so large
 abbrev pub block-and-up-to : ℕ → List Word → Option (ℕ × ℕ)
 block-and-up-to most = argument block-of (λ i. argument (number-up-to most) (λ n. end (i, n)))

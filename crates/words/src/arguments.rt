@@ -1,6 +1,6 @@
 // The arguments of a command.
 ghost use mathlib.Core.Path.{_≡_};
-ghost use Rattle.words.specs.Arguments.{no-more, one-byte, one-block, two-blocks, two-numbers, three-numbers, blocks-and-side, one-up-to, block-and-up-to, number-and-up-to};
+ghost use Rattle.words.specs.Arguments.{no-more, one-byte, one-block, two-blocks, two-numbers, three-numbers, blocks-and-side, one-up-to, two-up-to, block-and-up-to, number-and-up-to};
 ghost use Rattle.words.specs.Numbers.{number-of, number-up-to, block-of};
 ghost use Rattle.words.specs.Words.{words, byte-of, side-of, Taken};
 use crate::split::next_word;
@@ -146,6 +146,18 @@ pub fn one_up_to(args: &[u8], most: u32) -> Option<u32>
         return None;
     };
     if no_more(rest) { Some(n) } else { None }
+}
+
+pub fn two_up_to(args: &[u8], most: u32) -> Option<(u32, u32)>
+    ensures { λ r. ⌜ r ≡ two-up-to most (words (now (args .entry))) ⌝ }
+{
+    let Some((m, rest)) = up_to(args, most) else {
+        return None;
+    };
+    let Some((n, rest)) = up_to(rest, most) else {
+        return None;
+    };
+    if no_more(rest) { Some((m, n)) } else { None }
 }
 
 pub fn block_and_up_to(args: &[u8], most: u32) -> Option<(u16, u32)>

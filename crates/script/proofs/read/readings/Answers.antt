@@ -29,6 +29,7 @@ returns c =
       clear-said = refl;
       highest-said = refl;
       raise-said = refl;
+      pack-said = refl;
       too-many-columns = refl;
       too-many-records = refl;
       no-such-kind = refl;
