@@ -1,4 +1,5 @@
-// Tests of the plan's running code against examples worked out by hand from the rules.
+// Tests of the plan's running code against examples worked out from the rules: by hand, or by a model of the rules that shares
+// nothing with this code.
 #[cfg(test)]
 mod edits;
 #[cfg(test)]
