@@ -1,3 +1,4 @@
+#![tactic(auto)]
 // A list of calls on a plan, performed from a new plan on, and then a packing.
 pub mod call;
 mod desk;

@@ -1,3 +1,4 @@
+#![tactic(auto)]
 // A skyline that holds one number a column, in memory that the caller lends.
 ghost use Rattle.std.specs.Prelude.{◌≡◌, ◌<◌, ◌≤◌, min, length};
 ghost use Rattle.rules.specs.Skylines.{Largest, Fresh, Cleared, Raise};

@@ -1,3 +1,4 @@
+#![tactic(auto)]
 // The laws of packing, each as the contract of a function that does nothing. What they say stands in specs/Laws.antt.
 ghost use Rattle.geometry.specs.Laws.{NoOverlap, NoOverlapByNumber, AllStand, AllStandByNumber};
 ghost use Rattle.geometry.specs.Laws.{HighestOfColumns, ColumnOfTops};

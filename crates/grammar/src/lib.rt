@@ -1,3 +1,4 @@
+#![tactic(auto)]
 // The lines of a .blocks text, and what they say.
 mod forms;
 pub mod laws;

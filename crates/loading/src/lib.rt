@@ -1,3 +1,4 @@
+#![tactic(auto)]
 // The tests of a load.
 mod letters;
 mod links;

@@ -1,3 +1,4 @@
+#![tactic(auto)]
 // The names of blocks, and where a text has them.
 pub mod entries;
 mod names;

@@ -1,3 +1,4 @@
+#![tactic(auto)]
 // Packs plan K over a skyline of one's own, as it is, and with block 0 taken out.
 mod counted;
 

@@ -1,3 +1,4 @@
+#![tactic(auto)]
 // Tests of packing: the running code, over each kind of skyline, against cases worked by hand and against a grid of cells that shares
 // nothing with the packer.
 #[cfg(test)]

@@ -1,3 +1,4 @@
+#![tactic(auto)]
 // Packing: where each present block of a plan comes to stand, over any skyline.
 mod packing;
 mod placing;

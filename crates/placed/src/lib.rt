@@ -1,3 +1,4 @@
+#![tactic(auto)]
 // A skyline that holds each raised rectangle in a record, in memory that the caller lends.
 ghost use Rattle.std.specs.Prelude.{◌≤◌, min, length};
 

@@ -1,3 +1,4 @@
+#![tactic(auto)]
 // A plan of blocks: load, report, the five edits, and trials.
 mod checks;
 mod edits;

@@ -1,3 +1,4 @@
+#![tactic(auto)]
 // Tests of the plan's running code against examples worked out from the rules: by hand, or by a model of the rules that shares
 // nothing with this code.
 #[cfg(test)]

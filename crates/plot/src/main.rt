@@ -1,3 +1,4 @@
+#![tactic(auto)]
 // Reads a .blocks text from standard input, and writes the .pl text of its blocks, packed, or the line of a refusal.
 use plan::Settled;
 use plotter::plot;

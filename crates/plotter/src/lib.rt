@@ -1,3 +1,4 @@
+#![tactic(auto)]
 // From the text of blocks to the text of their places.
 mod blocks;
 mod packs;

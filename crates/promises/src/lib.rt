@@ -1,3 +1,4 @@
+#![tactic(auto)]
 // The whole promise of an accepted packing, and packing as a relation. Each function's contract states theorems; none has code.
 ghost use Rattle.promises.specs.Laws.{PromiseHolds, PromiseOfSettled, PromiseOfTried, PrunedPromise, OnePacking};
 ghost use Rattle.promises.specs.Tells.{EachSentenceTells};

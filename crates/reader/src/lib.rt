@@ -1,3 +1,4 @@
+#![tactic(auto)]
 // The reader of .blocks texts.
 mod body;
 mod found;

@@ -1,3 +1,4 @@
+#![tactic(auto)]
 // The types that every layer shares. What they mean stands in specs/.
 pub mod blocks;
 pub mod edits;

@@ -1,3 +1,4 @@
+#![tactic(auto)]
 // What a line of a script says.
 pub mod line;
 mod read;

@@ -1,3 +1,4 @@
+#![tactic(auto)]
 // Reads a script from standard input, and prints what each call answered.
 ghost use Rattle.std.specs.Prelude.{◌≡◌, ◌<◌, true, length, is_some, IfOk};
 

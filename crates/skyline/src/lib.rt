@@ -1,3 +1,4 @@
+#![tactic(auto)]
 // Skylines: the heights of columns, behind one trait, the tests of its calls, and the search for the highest top over a span.
 pub mod checks;
 pub mod skylines;

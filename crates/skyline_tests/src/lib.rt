@@ -1,3 +1,4 @@
+#![tactic(auto)]
 // Tests of the three skylines' running code. The answers in the tables are worked out by hand from the rules; beside each skyline
 // stands a plain array that the test paints itself, and shares nothing with the skylines' code.
 #[cfg(test)]

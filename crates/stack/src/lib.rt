@@ -1,2 +1,3 @@
+#![tactic(auto)]
 // A stack over memory that the caller lends.
 pub mod stack;

@@ -1,3 +1,4 @@
+#![tactic(auto)]
 // The block table: its links, and what the edits of a tree do to them.
 pub mod blocks;
 mod branches;

@@ -1,3 +1,4 @@
+#![tactic(auto)]
 // Tests of the reader and the writer of texts and of plot, against examples worked out from the rules, by hand and by a model of the
 // rules that shares nothing with this code.
 #[cfg(test)]

@@ -1,3 +1,4 @@
+#![tactic(auto)]
 // Theorems about edits, loads, books and histories, and a table of worked cases. Each function's contract states one; none has
 // code.
 ghost use Rattle.theorems.specs.EditLaws.{EditsKeepBlocksOnce, SwapTwice, TurnTwice, PutInTakeOut};

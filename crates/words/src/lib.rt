@@ -1,3 +1,4 @@
+#![tactic(auto)]
 // Texts cut into lines and lines into words, and what words say.
 pub mod arguments;
 pub mod split;

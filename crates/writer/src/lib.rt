@@ -1,3 +1,4 @@
+#![tactic(auto)]
 // The .pl text of placed blocks, and the line of a refusal, written into the caller's bytes.
 mod checks;
 mod digits;
