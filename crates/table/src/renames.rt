@@ -44,7 +44,7 @@ impl Renaming for Redirect {
 }
 
 pub fn rename_links<R: Renaming>(blocks: &mut [Block], by: &R)
-    ensures { blocks.new ≡ map (relinked (renames by.now)) blocks.old }
+    ensures { blocks.new ≡ map (relinked (R.renames by.now)) blocks.old }
 {
     for b in blocks.iter_mut() {
         b.left = by.rename(b.left);

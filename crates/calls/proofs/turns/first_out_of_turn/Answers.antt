@@ -8,9 +8,9 @@ loop-i-preserved c = λ records.
     first_out_later (said records) c.args.calls.now c.loop-i.i _ c.loop-i-test.true (as_state (Some c.loop-i.state)) c.in-Some.next (c.in-Some.ensures records)
     ∙ c.loop-i.invariant records
 
-pub returns-in-default : goal.returns-in-default
-returns-in-default c = λ records.
-    first_out_here (said records) c.args.calls.now c.loop-i.i _ c.loop-i-test.true (as_state (Some c.loop-i.state)) (c.in-default.ensures records)
+pub returns-in_default : goal.returns-in_default
+returns-in_default c = λ records.
+    first_out_here (said records) c.args.calls.now c.loop-i.i _ c.loop-i-test.true (as_state (Some c.loop-i.state)) (c.in_default.ensures records)
     ∙ c.loop-i.invariant records
 
 pub returns : goal.returns

@@ -7,7 +7,7 @@ returns-in-13 c =
     let said = c.in-Some.ensures in
     (ends_cr c.args.text.now c.in-Some.line.now said.0 (search rules) (search rules) (search rules), said.1, said.2)
 
-pub returns-in-default-line : goal.returns-in-default-line
-returns-in-default-line c =
+pub returns-in_default-line : goal.returns-in_default-line
+returns-in_default-line c =
     let said = c.in-Some.ensures in
     (ends_else c.args.text.now c.in-Some.line.now said.0 (λ some h cr. search rules), said.1, said.2)

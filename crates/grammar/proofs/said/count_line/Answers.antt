@@ -7,7 +7,7 @@ use Rattle.grammar.proofs.said.count_line.Goals as goal
 pub returns : goal.returns
 returns c =
     let ws = words c.args.line.now in
-    c.count-of.ensures ∙
+    c.count_of.ensures ∙
     ap (count_of c.args.label.now)
-    (found_words (λ w. w.now) c.words-into-n.new.room c.words-into-n.result ws (search rules) c.words-into-n.ensures.found) ∙
+    (found_words (λ w. w.now) c.words_into-n.new.room c.words_into-n.result ws (search rules) c.words_into-n.ensures.found) ∙
     count_room ws c.args.label.now

@@ -14,20 +14,20 @@ module _ (l ws : List Word) (found : l ≡ take 24 ws) where
   outline_found : (o : Option (Word × Corners)) → outline_of l ≡ o → outline_of ws ≡ o
   outline_found o e = sym (ap outline_of found ∙ outline_room ws) ∙ e
 
-pub returns-then-is-terminal : goal.returns-then-is-terminal
-returns-then-is-terminal c =
+pub returns-then-is_terminal : goal.returns-then-is_terminal
+returns-then-is_terminal c =
     let ws = words c.args.line.now in
-    let found = found_words (λ w. w.now) c.words-into-n.new.room c.words-into-n.result ws (search rules) c.words-into-n.ensures.found in
-    terminal_found _ ws found _ _ c.is-terminal.ensures c.if-is-terminal.true
+    let found = found_words (λ w. w.now) c.words_into-n.new.room c.words_into-n.result ws (search rules) c.words_into-n.ensures.found in
+    terminal_found _ ws found _ _ c.is_terminal.ensures c.if-is_terminal.true
 
 pub returns-in-Some : goal.returns-in-Some
 returns-in-Some c =
     let ws = words c.args.line.now in
-    let found = found_words (λ w. w.now) c.words-into-n.new.room c.words-into-n.result ws (search rules) c.words-into-n.ensures.found in
-    (terminal_found _ ws found _ _ c.is-terminal.ensures c.if-is-terminal.false, outline_found _ ws found _ c.in-Some.ensures)
+    let found = found_words (λ w. w.now) c.words_into-n.new.room c.words_into-n.result ws (search rules) c.words_into-n.ensures.found in
+    (terminal_found _ ws found _ _ c.is_terminal.ensures c.if-is_terminal.false, outline_found _ ws found _ c.in-Some.ensures)
 
 pub returns-in-None : goal.returns-in-None
 returns-in-None c =
     let ws = words c.args.line.now in
-    let found = found_words (λ w. w.now) c.words-into-n.new.room c.words-into-n.result ws (search rules) c.words-into-n.ensures.found in
-    (terminal_found _ ws found _ _ c.is-terminal.ensures c.if-is-terminal.false, outline_found _ ws found _ c.in-None.ensures)
+    let found = found_words (λ w. w.now) c.words_into-n.new.room c.words_into-n.result ws (search rules) c.words_into-n.ensures.found in
+    (terminal_found _ ws found _ _ c.is_terminal.ensures c.if-is_terminal.false, outline_found _ ws found _ c.in-None.ensures)

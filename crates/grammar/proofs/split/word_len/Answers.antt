@@ -2,11 +2,11 @@ use Rattle.std.proofs.Common.{arith, rules}
 use Rattle.grammar.proofs.Splits.{first_mark, words_run}
 use Rattle.grammar.proofs.split.word_len.Goals as goal
 
-pub returns-then-is-mark : goal.returns-then-is-mark
-returns-then-is-mark c = record { within = search rules; first = first_mark c.args.line.now (search rules) (search rules) (search rules) }
+pub returns-then-is_mark : goal.returns-then-is_mark
+returns-then-is_mark c = record { within = search rules; first = first_mark c.args.line.now (search rules) (search rules) (search rules) }
 
-pub returns-else-is-plain : goal.returns-else-is-plain
-returns-else-is-plain c =
+pub returns-else-is_plain : goal.returns-else-is_plain
+returns-else-is_plain c =
     record {
       within = search rules;
       first = words_run c.args.line.now c.loop-n.n (search rules) (search rules) c.loop-n.invariant.2 (λ h. search rules);

@@ -16,9 +16,9 @@ returns-after-loop-n c =
       found = found_full (λ w. w.now) c.loop-n.room c.loop-n.n c.loop-n.invariant.0 _ _ c.loop-n.invariant.1 (search rules);
     }
 
-pub returns-in-default : goal.returns-in-default
-returns-in-default c =
+pub returns-in_default : goal.returns-in_default
+returns-in_default c =
     record {
       within = c.loop-n.invariant.0;
-      found = found_all (λ w. w.now) c.loop-n.room c.loop-n.n c.loop-n.invariant.0 _ _ c.loop-n.invariant.1 c.in-default.ensures;
+      found = found_all (λ w. w.now) c.loop-n.room c.loop-n.n c.loop-n.invariant.0 _ _ c.loop-n.invariant.1 c.in_default.ensures;
     }

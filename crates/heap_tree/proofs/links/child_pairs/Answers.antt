@@ -9,7 +9,7 @@ loop-k-preserved c = (
   length-set c.loop-k.pairs c.loop-k.k _ ∙ c.loop-k.invariant.0,
   below_more _ _
       (λ k h. let ne : k ≢ c.loop-k.k = omega arith in rw get_or-set_other (c.loop-k.invariant.1 k h))
-      (let lt : c.loop-k.k < length c.loop-k.pairs = omega (arith, c.loop-k.invariant.0, c.requires) in rw get_or-set_same c.child-pair.ensures),
+      (let lt : c.loop-k.k < length c.loop-k.pairs = omega (arith, c.loop-k.invariant.0, c.requires) in rw get_or-set_same c.child_pair.ensures),
 )
 
 pub returns : goal.returns

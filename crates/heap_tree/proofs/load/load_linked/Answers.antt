@@ -5,4 +5,4 @@ use Rattle.heap_tree.proofs.load.load_linked.Goals as goal
 
 pub returns : goal.returns
 unfolding heap_given
-returns c = loaded c.args.sizes.now _ _ _ _ _ _ (λ j. given c.args.sizes.now (c.requires.letters j) (c.requires.children j) (c.root-link-root.ensures j) 512) c.load.ensures
+returns c = loaded c.args.sizes.now _ _ _ _ _ _ (λ j. given c.args.sizes.now (c.requires.letters j) (c.requires.children j) (c.root_link-root.ensures j) 512) c.load.ensures

@@ -7,10 +7,10 @@ pub loop-i-init : goal.loop-i-init
 loop-i-init c = begun _ _
 
 pub loop-i-preserved : goal.loop-i-preserved
-loop-i-preserved c = passed _ _ _ c.loop-i-test.true (not_from_true _ (sym c.children-fit.ensures ∙ c.if-not-children-fit.false)) c.loop-i.invariant
+loop-i-preserved c = passed _ _ _ c.loop-i-test.true (not_from_true _ (sym c.children_fit.ensures ∙ c.if-not-children_fit.false)) c.loop-i.invariant
 
-pub returns-then-not-children-fit : goal.returns-then-not-children-fit
-returns-then-not-children-fit c = found _ _ _ c.loop-i-test.true (not_from_false _ (sym c.children-fit.ensures ∙ c.if-not-children-fit.true)) c.loop-i.invariant
+pub returns-then-not-children_fit : goal.returns-then-not-children_fit
+returns-then-not-children_fit c = found _ _ _ c.loop-i-test.true (not_from_false _ (sym c.children_fit.ensures ∙ c.if-not-children_fit.true)) c.loop-i.invariant
 
 pub returns : goal.returns
 returns c = ended _ _ _ c.loop-i-test.false c.loop-i.invariant

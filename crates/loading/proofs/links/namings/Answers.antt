@@ -5,16 +5,16 @@ use Rattle.rules.proofs.Counts.{flag_le}
 use Rattle.loading.proofs.Namings.{leading_none, leading_more, leading_le, wider}
 use Rattle.loading.proofs.links.namings.Goals as goal
 
-pub count-naming-requires : goal.count-naming-requires
-count-naming-requires c = record { link = wider _ _ _ c.requires.few c.requires.root; few = λ k h. let P : ℕ → Type 0 = λ v. v ≤ 1024 in subst P (sym (get_or-replicate 512 k 0 0 h)) (lit≤ tt) }
+pub count_naming-requires : goal.count_naming-requires
+count_naming-requires c = record { link = wider _ _ _ c.requires.few c.requires.root; few = λ k h. let P : ℕ → Type 0 = λ v. v ≤ 1024 in subst P (sym (get_or-replicate 512 k 0 0 h)) (lit≤ tt) }
 
 pub loop-pair-init : goal.loop-pair-init
 loop-pair-init c = λ k h.
-    c.count-naming.ensures k h ∙ ap (λ (v : ℕ). v + cond (eqb c.args.root k) 1 0) (get_or-replicate 512 k 0 0 h)
+    c.count_naming.ensures k h ∙ ap (λ (v : ℕ). v + cond (eqb c.args.root k) 1 0) (get_or-replicate 512 k 0 0 h)
     ∙ omega (arith, leading_none (left_of c.args.children.now) k, leading_none (right_of c.args.children.now) k)
 
-pub count-naming-requires-in-loop-pair : goal.count-naming-requires-in-loop-pair
-count-naming-requires-in-loop-pair c =
+pub count_naming-requires-in-loop-pair : goal.count_naming-requires-in-loop-pair
+count_naming-requires-in-loop-pair c =
     let i = c.loop-pair.pair-index in
     let cs = c.args.children.now in
     record {
@@ -22,18 +22,18 @@ count-naming-requires-in-loop-pair c =
       few = λ k h. omega (arith, c.loop-pair.invariant k h, leading_le (left_of cs) i k, leading_le (right_of cs) i k, flag_le (eqb c.args.root k), c.requires.few, c.loop-pair-test.true);
     }
 
-pub count-naming-requires-in-loop-pair-2 : goal.count-naming-requires-in-loop-pair-2
-count-naming-requires-in-loop-pair-2 c =
+pub count_naming-requires-in-loop-pair-2 : goal.count_naming-requires-in-loop-pair-2
+count_naming-requires-in-loop-pair-2 c =
     let i = c.loop-pair.pair-index in
     let cs = c.args.children.now in
     record {
       link = wider _ _ _ c.requires.few (c.requires.linked i c.loop-pair-test.true).1;
       few = λ k h.
-          omega (arith, c.count-naming-in-loop-pair.ensures k h, flag_le (eqb (left_of cs i) k), c.loop-pair.invariant k h, leading_le (left_of cs) i k, leading_le (right_of cs) i k, flag_le (eqb c.args.root k), c.requires.few, c.loop-pair-test.true);
+          omega (arith, c.count_naming-in-loop-pair.ensures k h, flag_le (eqb (left_of cs i) k), c.loop-pair.invariant k h, leading_le (left_of cs) i k, leading_le (right_of cs) i k, flag_le (eqb c.args.root k), c.requires.few, c.loop-pair-test.true);
     }
 
 pub loop-pair-preserved : goal.loop-pair-preserved
 loop-pair-preserved c = λ k h.
     let i = c.loop-pair.pair-index in
     let cs = c.args.children.now in
-    omega (arith, c.count-naming-in-loop-pair-2.ensures k h, c.count-naming-in-loop-pair.ensures k h, c.loop-pair.invariant k h, leading_more (left_of cs) i k, leading_more (right_of cs) i k)
+    omega (arith, c.count_naming-in-loop-pair-2.ensures k h, c.count_naming-in-loop-pair.ensures k h, c.loop-pair.invariant k h, leading_more (left_of cs) i k, leading_more (right_of cs) i k)

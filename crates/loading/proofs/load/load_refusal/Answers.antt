@@ -15,17 +15,17 @@ returns-in-Some c =
     let e = from_room g _ c.in-Some.ensures in
     record { answer = e; walk = λ reason is. refl; told = told g _ e }
 
-pub returns-in-Some-block-refusal : goal.returns-in-Some-block-refusal
-returns-in-Some-block-refusal c =
+pub returns-in-Some-block_refusal : goal.returns-in-Some-block_refusal
+returns-in-Some-block_refusal c =
     let g = given c.args.sizes.now c.args.letters.now c.args.children.now c.args.root (length c.args.walk.now) in
-    let e = from_blocks g _ c.in-default.ensures c.in-Some-block-refusal.ensures in
+    let e = from_blocks g _ c.in_default.ensures c.in-Some-block_refusal.ensures in
     record { answer = e; walk = λ reason is. refl; told = told g _ e }
 
-pub tree-refusal-requires : goal.tree-refusal-requires
-tree-refusal-requires c =
+pub tree_refusal-requires : goal.tree_refusal-requires
+tree_refusal-requires c =
     let g = given c.args.sizes.now c.args.letters.now c.args.children.now c.args.root (length c.args.walk.now) in
-    let a = (past_room g None None (lit< tt) (lit< tt) (sym c.in-default.ensures)).0 in
-    let b = (past_blocks g None None (lit< tt) (sym c.in-default-block-refusal.ensures)).0 in
+    let a = (past_room g None None (lit< tt) (lit< tt) (sym c.in_default.ensures)).0 in
+    let b = (past_blocks g None None (lit< tt) (sym c.in_default-block_refusal.ensures)).0 in
     record {
       few = omega (arith, a.few, a.children_long);
       linked = linked _ b.children_fit;
@@ -35,6 +35,6 @@ tree-refusal-requires c =
 pub returns : goal.returns
 returns c =
     let g = given c.args.sizes.now c.args.letters.now c.args.children.now c.args.root (length c.args.walk.now) in
-    let room = c.in-default.ensures in
-    let e = from_tree g _ room c.in-default-block-refusal.ensures c.tree-refusal.ensures in
+    let room = c.in_default.ensures in
+    let e = from_tree g _ room c.in_default-block_refusal.ensures c.tree_refusal.ensures in
     record { answer = e; walk = λ reason is. absurd (none_some reason _ room is); told = told g _ e }

@@ -5,26 +5,26 @@ use Rattle.loading.specs.Walks.{added}
 use Rattle.loading.proofs.Walking.{restacked, walk_start, room_for_root, walk_end, turn}
 use Rattle.loading.proofs.reach.reached_blocks.Goals as goal
 
-pub push-block-requires : goal.push-block-requires
-push-block-requires c = λ some.
+pub push_block-requires : goal.push_block-requires
+push_block-requires c = λ some.
     omega (arith, room_for_root c.args.children.now c.requires.few c.requires.tree some, ap length c.over-stack.ensures.held, c.over-stack.ensures.room, c.requires.room)
 
 pub loop-block-init : goal.loop-block-init
 loop-block-init c = (
-  restacked (c.push-block.ensures.held ∙ ap (added c.args.root) c.over-stack.ensures.held) (walk_start c.args.children.now c.requires.few c.requires.tree),
-  omega (arith, c.push-block.ensures.room, c.over-stack.ensures.room, c.requires.room),
+  restacked (c.push_block.ensures.held ∙ ap (added c.args.root) c.over-stack.ensures.held) (walk_start c.args.children.now c.requires.few c.requires.tree),
+  omega (arith, c.push_block.ensures.room, c.over-stack.ensures.room, c.requires.room),
   refl,
 )
 
-pub push-block-requires-in-Some : goal.push-block-requires-in-Some
-push-block-requires-in-Some c = λ some.
+pub push_block-requires-in-Some : goal.push_block-requires-in-Some
+push_block-requires-in-Some c = λ some.
     let t = turn c.args.children.now c.requires.few c.requires.tree c.loop-block.invariant.2 c.loop-block.invariant.0 c.in-Some.ensures.0 in
     omega (arith, t.room, c.in-Some.ensures.1, c.loop-block.invariant.1)
 
-pub push-block-requires-in-Some-2 : goal.push-block-requires-in-Some-2
-push-block-requires-in-Some-2 c = λ some.
+pub push_block-requires-in-Some-2 : goal.push_block-requires-in-Some-2
+push_block-requires-in-Some-2 c = λ some.
     let t = turn c.args.children.now c.requires.few c.requires.tree c.loop-block.invariant.2 c.loop-block.invariant.0 c.in-Some.ensures.0 in
-    omega (arith, t.room_beside some, ap length c.push-block-in-Some.ensures.held, c.push-block-in-Some.ensures.room, c.in-Some.ensures.1, c.loop-block.invariant.1)
+    omega (arith, t.room_beside some, ap length c.push_block-in-Some.ensures.held, c.push_block-in-Some.ensures.room, c.in-Some.ensures.1, c.loop-block.invariant.1)
 
 pub loop-block-smaller : goal.loop-block-smaller
 loop-block-smaller c =
@@ -35,11 +35,11 @@ pub loop-block-preserved : goal.loop-block-preserved
 loop-block-preserved c =
     let e = c.in-Some.block in
     let t = turn c.args.children.now c.requires.few c.requires.tree c.loop-block.invariant.2 c.loop-block.invariant.0 c.in-Some.ensures.0 in
-    let stacked = c.push-block-in-Some-2.ensures.held ∙ ap (added (left_of c.args.children.now e)) c.push-block-in-Some.ensures.held in (
+    let stacked = c.push_block-in-Some-2.ensures.held ∙ ap (added (left_of c.args.children.now e)) c.push_block-in-Some.ensures.held in (
       restacked stacked t.again,
-      omega (arith, c.push-block-in-Some-2.ensures.room, c.push-block-in-Some.ensures.room, c.in-Some.ensures.1, c.loop-block.invariant.1),
+      omega (arith, c.push_block-in-Some-2.ensures.room, c.push_block-in-Some.ensures.room, c.in-Some.ensures.1, c.loop-block.invariant.1),
       length-set _ _ _ ∙ c.loop-block.invariant.2,
     )
 
 pub returns : goal.returns
-returns c = walk_end c.args.children.now c.requires.few c.loop-block.invariant.0 c.in-default.ensures.0
+returns c = walk_end c.args.children.now c.requires.few c.loop-block.invariant.0 c.in_default.ensures.0

@@ -7,10 +7,10 @@ pub loop-i-init : goal.loop-i-init
 loop-i-init c = begun _ _
 
 pub loop-i-preserved : goal.loop-i-preserved
-loop-i-preserved c = passed _ _ _ c.loop-i-test.true (not_from_true _ (sym c.size-fits.ensures ∙ c.if-not-size-fits.false)) c.loop-i.invariant
+loop-i-preserved c = passed _ _ _ c.loop-i-test.true (not_from_true _ (sym c.size_fits.ensures ∙ c.if-not-size_fits.false)) c.loop-i.invariant
 
-pub returns-then-not-size-fits : goal.returns-then-not-size-fits
-returns-then-not-size-fits c = found _ _ _ c.loop-i-test.true (not_from_false _ (sym c.size-fits.ensures ∙ c.if-not-size-fits.true)) c.loop-i.invariant
+pub returns-then-not-size_fits : goal.returns-then-not-size_fits
+returns-then-not-size_fits c = found _ _ _ c.loop-i-test.true (not_from_false _ (sym c.size_fits.ensures ∙ c.if-not-size_fits.true)) c.loop-i.invariant
 
 pub returns : goal.returns
 returns c = ended _ _ _ c.loop-i-test.false c.loop-i.invariant

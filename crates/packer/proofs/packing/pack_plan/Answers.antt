@@ -10,7 +10,7 @@ enough_for : {p q : Plan} {s : Sky} {walk long records : ℕ} → q ≡ p → lo
 enough_for {p} {s} {long} {records} e f h =
     subst (λ (v : Plan). Enough v s long records) (sym e) (subst (λ (n : ℕ). Enough p s n records) (sym f) h)
 
-pub place-all-height-requires : goal.place-all-height-requires
-place-all-height-requires g c =
+pub place_all-height-requires : goal.place_all-height-requires
+place_all-height-requires g c =
     let r = reads c.args.plan.now c.blocks-2.result.now c.root.result c.blocks-2.ensures c.root.ensures in
-    record { plan = r.stand; enough = enough_for r.same c.tested-reach.auto.walk c.in-ok-width.ensures.1 }
+    record { plan = r.stand; enough = enough_for r.same c.tested_reach.auto.walk c.in_ok-width.ensures.1 }

@@ -11,7 +11,7 @@ pub returns-then-walk-present : goal.returns-then-walk-present
 returns-then-walk-present g c =
     let plan = c.args.plan.now in
     let r = reads plan c.blocks-blocks.result.now _ c.blocks-blocks.ensures refl in
-    let count = c.count-present-present.ensures in (
+    let count = c.count_present-present.ensures in (
       elim c.then-walk-present.either [
         | inl h ↦ memory_too_short _ _ _ _ (inl (omega (arith, count, r.present)))
         | inr h ↦ memory_too_short _ _ _ _ (inr (omega (arith, h.1, r.long)))
@@ -20,19 +20,19 @@ returns-then-walk-present g c =
       λ _. refl,
     )
 
-pub reach-of-reach-requires : goal.reach-of-reach-requires
-reach-of-reach-requires g c =
+pub reach_of-reach-requires : goal.reach_of-reach-requires
+reach_of-reach-requires g c =
     let r = reads c.args.plan.now c.blocks-blocks.result.now c.root.result c.blocks-blocks.ensures c.root.ensures in
     record {
       plan = r.stand;
-      room = omega (arith, ap (λ (p : Plan). size p.tree) r.same, c.count-present-present.ensures, r.present);
+      room = omega (arith, ap (λ (p : Plan). size p.tree) r.same, c.count_present-present.ensures, r.present);
     }
 
 pub returns-then-columns-reach : goal.returns-then-columns-reach
 returns-then-columns-reach g c =
     let r = reads c.args.plan.now c.blocks-blocks.result.now c.root.result c.blocks-blocks.ensures c.root.ensures in
-    let wide = c.reach-of-reach.ensures ∙ ap (λ (p : Plan). reach (packed p)) r.same in
-    let count = c.count-present-present.ensures in (
+    let wide = c.reach_of-reach.ensures ∙ ap (λ (p : Plan). reach (packed p)) r.same in
+    let count = c.count_present-present.ensures in (
       reach_too_wide _ _ _ _ (omega (arith, count, r.present)) (omega (arith, r.long)) (omega (arith, wide, c.columns.ensures)),
       search rules,
       search rules,
@@ -41,8 +41,8 @@ returns-then-columns-reach g c =
 pub returns-then-raises-present : goal.returns-then-raises-present
 returns-then-raises-present g c =
     let r = reads c.args.plan.now c.blocks-blocks.result.now c.root.result c.blocks-blocks.ensures c.root.ensures in
-    let wide = c.reach-of-reach.ensures ∙ ap (λ (p : Plan). reach (packed p)) r.same in
-    let count = c.count-present-present.ensures in (
+    let wide = c.reach_of-reach.ensures ∙ ap (λ (p : Plan). reach (packed p)) r.same in
+    let count = c.count_present-present.ensures in (
       too_few_raises _ _ _ _ (omega (arith, count, r.present)) (omega (arith, r.long)) (omega (arith, wide, c.columns.ensures)) (omega (arith, count, r.present, c.raises.ensures)),
       search rules,
       search rules,
@@ -51,8 +51,8 @@ returns-then-raises-present g c =
 pub returns : goal.returns
 returns g c =
     let r = reads c.args.plan.now c.blocks-blocks.result.now c.root.result c.blocks-blocks.ensures c.root.ensures in
-    let wide = c.reach-of-reach.ensures ∙ ap (λ (p : Plan). reach (packed p)) r.same in
-    let count = c.count-present-present.ensures in
+    let wide = c.reach_of-reach.ensures ∙ ap (λ (p : Plan). reach (packed p)) r.same in
+    let count = c.count_present-present.ensures in
     let enough : Enough _ _ _ _ = record {
       walk_long = omega (arith, count, r.present);
       records_long = omega (arith, r.long);

@@ -8,13 +8,13 @@ use Rattle.packer.proofs.placing.place_all.Goals as goal
 pub fill-requires : goal.fill-requires
 fill-requires g c =
     let z = c.clear.ensures in
-    let blanked = c.blank-records.ensures in
+    let blanked = c.blank_records.ensures in
     let n = length c.args.blocks.now in
     record {
       plan = c.requires.plan;
       enough = record {
         walk_long = c.requires.enough.walk_long;
-        records_long = omega (arith, c.blank-records.auto.places, c.requires.enough.records_long);
+        records_long = omega (arith, c.blank_records.auto.places, c.requires.enough.records_long);
         columns_wide = omega (arith, z.columns, c.requires.enough.columns_wide);
         raises_many = omega (arith, z.raises, c.requires.enough.raises_many);
       };
@@ -32,7 +32,7 @@ returns g c =
     record {
       height = c.fill.ensures.height;
       places =
-          c.fill.ensures.places ∙ ap (recorded ps n) c.blank-records.ensures ∙ recorded_twice ps [] n before
+          c.fill.ensures.places ∙ ap (recorded ps n) c.blank_records.ensures ∙ recorded_twice ps [] n before
           ∙ ap (λ (k : ℕ). recorded ps k before) (sym c.requires.plan.long);
       skyline = record {
         columns = u.columns ∙ z.columns;

@@ -11,15 +11,15 @@ use Rattle.plotter.proofs.blocks.packed_places.Goals as goal
 pub unreachable-requires : goal.unreachable-requires
 unreachable-requires c =
     let es = c.args.entries.now in
-    (loaded es _ _ _ _ (from_start (length es) _ (map size_of es) c.sizes-of-sizes.ensures) c.requires.few c.requires.sized c.load-heap.ensures.tests c.load-heap.ensures.load
-    ).no_refusal _ c.in-default.is
+    (loaded es _ _ _ _ (from_start (length es) _ (map size_of es) c.sizes_of-sizes.ensures) c.requires.few c.requires.sized c.load_heap.ensures.tests c.load_heap.ensures.load
+    ).no_refusal _ c.in_default.is
 
 pub returns : goal.returns
 returns c =
     let es = c.args.entries.now in
-    let l = loaded es _ _ _ _ (from_start (length es) _ (map size_of es) c.sizes-of-sizes.ensures) c.requires.few c.requires.sized c.load-heap.ensures.tests c.load-heap.ensures.load in
+    let l = loaded es _ _ _ _ (from_start (length es) _ (map size_of es) c.sizes_of-sizes.ensures) c.requires.few c.requires.sized c.load_heap.ensures.tests c.load_heap.ensures.load in
     let told = ap (λ (h : Held). plan_of (rows h) (root_of h)) c.plan.ensures ∙ l.plan in
     record {
-      seen = seen es c.requires.sized l.passes (within_told es _ told c.places-of.ensures.within);
-      places = places_told es _ _ told c.places-of.ensures.places;
+      seen = seen es c.requires.sized l.passes (within_told es _ told c.places_of.ensures.within);
+      places = places_told es _ _ told c.places_of.ensures.places;
     }

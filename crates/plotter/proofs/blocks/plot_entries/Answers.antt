@@ -8,9 +8,9 @@ pub returns : goal.returns
 returns c =
     let text = c.args.text.now in
     let es = c.args.entries.now in
-    let is = from_start (length es) _ _ c.packed-places-places.ensures.places in
-    let s = c.packed-places-places.ensures.seen in
+    let is = from_start (length es) _ _ c.packed_places-places.ensures.places in
+    let s = c.packed_places-places.ensures.seen in
     record {
-      writes = only_room text es _ _ c.args.out.now _ _ c.requires.short c.requires.named is (text_is text es _ s) c.write-placements.ensures.writes;
-      tells = tells text es _ _ _ _ is s c.write-placements.ensures.read_back;
+      writes = only_room text es _ _ c.args.out.now _ _ c.requires.short c.requires.named is (text_is text es _ s) c.write_placements.ensures.writes;
+      tells = tells text es _ _ _ _ is s c.write_placements.ensures.read_back;
     }

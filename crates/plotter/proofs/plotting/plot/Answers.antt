@@ -4,13 +4,13 @@ use Rattle.writer.specs.Answers.{too_short, Writes}
 use Rattle.plotter.proofs.Saying.{reading, refusing, ready, plotted_is, plot_tells, refused_is, refused_tells}
 use Rattle.plotter.proofs.plotting.plot.Goals as goal
 
-pub slice-bounds-plot-entries-end : goal.slice-bounds-plot-entries-end
-slice-bounds-plot-entries-end c =
+pub slice_bounds-plot_entries-end : goal.slice_bounds-plot_entries-end
+slice_bounds-plot_entries-end c =
     let h = (reading c.args.text.now _ _ _ _ c.in-Ok.ensures.answer c.in-Ok.ensures.records).within in
     search rules
 
-pub plot-entries-requires : goal.plot-entries-requires
-plot-entries-requires c =
+pub plot_entries-requires : goal.plot_entries-requires
+plot_entries-requires c =
     let d = reading c.args.text.now _ _ _ _ c.in-Ok.ensures.answer c.in-Ok.ensures.records in
     let r = ready c.args.text.now d.told _ d.says (from_start c.in-Ok.count _ _ d.entries) (c.in-Ok.ensures.names d.told d.says) in
     record { short = r.short; few = r.few; named = r.named; sized = r.sized }
@@ -23,9 +23,9 @@ returns-in-Ok c =
     let all = c.in-Ok.ensures.names d.told d.says in
     record {
       writes =
-          subst (λ (t : List ℕ). Writes (too_short t (length c.args.out.now)) t c.args.out.now c.plot-entries.new.out c.plot-entries.result)
-          (plotted_is text d.told _ d.says es all) c.plot-entries.ensures.writes;
-      tells = plot_tells text d.told _ d.says es all _ _ c.plot-entries.ensures.tells;
+          subst (λ (t : List ℕ). Writes (too_short t (length c.args.out.now)) t c.args.out.now c.plot_entries.new.out c.plot_entries.result)
+          (plotted_is text d.told _ d.says es all) c.plot_entries.ensures.writes;
+      tells = plot_tells text d.told _ d.says es all _ _ c.plot_entries.ensures.tells;
     }
 
 pub returns-in-Err : goal.returns-in-Err
@@ -34,7 +34,7 @@ returns-in-Err c =
     let says = refusing text _ c.in-Err.refusal (search rules) c.in-Err.ensures.answer in
     record {
       writes =
-          subst (λ (t : List ℕ). Writes (too_short t (length c.args.out.now)) t c.args.out.now c.write-refusal.new.out c.write-refusal.result)
-          (refused_is text c.in-Err.refusal says) c.write-refusal.ensures;
+          subst (λ (t : List ℕ). Writes (too_short t (length c.args.out.now)) t c.args.out.now c.write_refusal.new.out c.write_refusal.result)
+          (refused_is text c.in-Err.refusal says) c.write_refusal.ensures;
       tells = refused_tells text _ c.in-Err.refusal _ says;
     }

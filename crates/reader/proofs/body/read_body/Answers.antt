@@ -7,5 +7,5 @@ pub returns : goal.returns
 unfolding body
 returns c = (
   c.loop-line.invariant.1,
-  λ counts. c.loop-line.invariant.3 counts ∙ ap (from_here c.args.text.now c.loop-line.found c.loop-line.tally counts) c.in-default.ensures,
+  λ counts. c.loop-line.invariant.3 counts ∙ ap (from_here c.args.text.now c.loop-line.found c.loop-line.tally counts) c.in_default.ensures,
 )

@@ -36,21 +36,21 @@ returns g c =
     let t = means c.raise.new.self in
     let z = c.clear.ensures in
     let first = raise_keeps s t 2 4 5 c.raise.result c.raise.ensures in
-    let last = raise_keeps t (means c.raise-too-low.new.self) 3 5 4 c.raise-too-low.result c.raise-too-low.ensures in
+    let last = raise_keeps t (means c.raise-too_low.new.self) 3 5 4 c.raise-too_low.result c.raise-too_low.ensures in
     let up : 4 < w.columns → 0 < w.raises → Raised s t 2 4 5
     = λ wide some. (raise_passes s t 2 4 5 c.raise.result c.raise.ensures (omega arith, omega arith) (omega arith) (λ k l u. omega (arith, z.height k (omega arith))) (omega arith)).1 in
-    let too_low : 4 < w.columns → 0 < w.raises → c.raise-too-low.result ≡ Err BelowHighest
+    let too_low : 4 < w.columns → 0 < w.raises → c.raise-too_low.result ≡ Err BelowHighest
     = λ wide some.
     let u = up wide some in
-    raise_below t (means c.raise-too-low.new.self) 3 5 4 c.raise-too-low.result c.raise-too-low.ensures (omega arith, omega arith) (omega arith)
+    raise_below t (means c.raise-too_low.new.self) 3 5 4 c.raise-too_low.result c.raise-too_low.ensures (omega arith, omega arith) (omega arith)
     (λ k. omega (arith, k 3 (omega arith) (omega arith), u.inside 3 (omega arith) (omega arith))) in
-    let kept : 4 < w.columns → 0 < w.raises → Unaltered t (means c.raise-too-low.new.self)
-    = λ wide some. raise_refused t (means c.raise-too-low.new.self) 3 5 4 c.raise-too-low.result BelowHighest c.raise-too-low.ensures (too_low wide some) in
+    let kept : 4 < w.columns → 0 < w.raises → Unaltered t (means c.raise-too_low.new.self)
+    = λ wide some. raise_refused t (means c.raise-too_low.new.self) 3 5 4 c.raise-too_low.result BelowHighest c.raise-too_low.ensures (too_low wide some) in
     record {
       worked = record {
         columns = last.0 ∙ first.0 ∙ z.columns;
         raises = last.1 ∙ first.1 ∙ z.raises;
-        over_edge = λ wide some. highest_is t 0 3 5 c.highest-over-edge.result c.highest-over-edge.ensures (omega arith, omega arith) (over_edge w s t z wide (up wide some));
+        over_edge = λ wide some. highest_is t 0 3 5 c.highest-over_edge.result c.highest-over_edge.ensures (omega arith, omega arith) (over_edge w s t z wide (up wide some));
         beside = λ wide some. highest_is t 0 2 0 c.highest-beside.result c.highest-beside.ensures (omega arith, omega arith) (beside w s t z wide (up wide some));
         too_low = too_low;
       };
@@ -63,9 +63,9 @@ returns g c =
             record {
               clears = z;
               raises = c.raise.ensures;
-              over_edge = c.highest-over-edge.ensures;
+              over_edge = c.highest-over_edge.ensures;
               beside = c.highest-beside.ensures;
-              too_low = c.raise-too-low.ensures;
+              too_low = c.raise-too_low.ensures;
             },
           ),
         );

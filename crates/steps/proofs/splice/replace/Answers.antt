@@ -10,5 +10,5 @@ returns c =
       size = search (rules, places);
       used = refl;
       runs = written c.args.runs.now c.args.new.now c.args.used c.args.first c.args.past pre.forward pre.within pre.held pre.room
-          _ _ _ (omega arith) c.shift.ensures.moved c.copy-from-slice.ensures.after;
+          _ _ _ (omega arith) c.shift.ensures.moved c.copy_from_slice.ensures.after;
     }

@@ -14,7 +14,7 @@ loop-step-preserved c =
     let s = c.args.side in
     let bs = c.args.blocks.now in
     let e : length bs - l.step ≡ suc (length bs - (l.step + 1)) = omega arith in (
-      ap (λ k. last_from l.link (branch s bs (length bs - (l.step + 1)) k)) c.child-of-link.ensures
+      ap (λ k. last_from l.link (branch s bs (length bs - (l.step + 1)) k)) c.child_of-link.ensures
           ∙ sym (last_more s bs l.last _ _ l.link e c.if-link-blocks.false) ∙ l.invariant.0,
       search rules,
     )

@@ -8,12 +8,12 @@ returns-then-link-blocks c =
     let l = c.loop-step in
     sym (childless_nil c.args.side c.args.blocks.now c.args.other _ (branch_out c.args.side c.args.blocks.now _ l.link c.if-link-blocks.true)) ∙ l.invariant.0
 
-pub returns-then-child-of : goal.returns-then-child-of
-returns-then-child-of c =
+pub returns-then-child_of : goal.returns-then-child_of
+returns-then-child_of c =
     let l = c.loop-step in
     let bs = c.args.blocks.now in
     let e : length bs - l.step ≡ suc (length bs - (l.step + 1)) = omega arith in
-    sym (childless_not c.args.side bs c.args.other _ _ l.link e c.if-link-blocks.false (λ q. c.if-child-of.true (c.child-of.ensures ∙ q))) ∙ l.invariant.0
+    sym (childless_not c.args.side bs c.args.other _ _ l.link e c.if-link-blocks.false (λ q. c.if-child_of.true (c.child_of.ensures ∙ q))) ∙ l.invariant.0
 
 pub loop-step-preserved : goal.loop-step-preserved
 loop-step-preserved c =
@@ -21,8 +21,8 @@ loop-step-preserved c =
     let s = c.args.side in
     let bs = c.args.blocks.now in
     let e : length bs - l.step ≡ suc (length bs - (l.step + 1)) = omega arith in (
-      ap (λ k. childless c.args.other bs (branch s bs (length bs - (l.step + 1)) k)) c.child-of-link.ensures
-          ∙ sym (childless_more s bs c.args.other _ _ l.link e c.if-link-blocks.false (sym c.child-of.ensures ∙ c.if-child-of.false)) ∙ l.invariant.0,
+      ap (λ k. childless c.args.other bs (branch s bs (length bs - (l.step + 1)) k)) c.child_of-link.ensures
+          ∙ sym (childless_more s bs c.args.other _ _ l.link e c.if-link-blocks.false (sym c.child_of.ensures ∙ c.if-child_of.false)) ∙ l.invariant.0,
       search rules,
     )
 

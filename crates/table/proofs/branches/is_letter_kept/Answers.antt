@@ -18,20 +18,20 @@ by_tree letter i root bs r e t h = e ∙ kept_by_tree h letter i
 
 pub returns-in-Bottom : goal.returns-in-Bottom
 returns-in-Bottom c =
-    let e = at_letter c.args.letter Bottom c.args.i c.args.root c.args.blocks.now _ c.in-Bottom.is c.on-branch.ensures in
+    let e = at_letter c.args.letter Bottom c.args.i c.args.root c.args.blocks.now _ c.in-Bottom.is c.on_branch.ensures in
     record { links = e; tree = by_tree c.args.letter c.args.i c.args.root c.args.blocks.now _ e }
 
 pub returns-in-Left : goal.returns-in-Left
 returns-in-Left c =
-    let e = at_letter c.args.letter Left c.args.i c.args.root c.args.blocks.now _ c.in-Left.is c.on-branch-in-Left.ensures in
+    let e = at_letter c.args.letter Left c.args.i c.args.root c.args.blocks.now _ c.in-Left.is c.on_branch-in-Left.ensures in
     record { links = e; tree = by_tree c.args.letter c.args.i c.args.root c.args.blocks.now _ e }
 
 pub returns-in-Right : goal.returns-in-Right
 returns-in-Right c =
-    let e = at_letter c.args.letter Right c.args.i c.args.root c.args.blocks.now _ c.in-Right.is c.kept-at-foot.ensures in
+    let e = at_letter c.args.letter Right c.args.i c.args.root c.args.blocks.now _ c.in-Right.is c.kept_at_foot.ensures in
     record { links = e; tree = by_tree c.args.letter c.args.i c.args.root c.args.blocks.now _ e }
 
 pub returns-in-Top : goal.returns-in-Top
 returns-in-Top c =
-    let e = at_letter c.args.letter Top c.args.i c.args.root c.args.blocks.now _ c.in-Top.is c.kept-at-foot-in-Top.ensures in
+    let e = at_letter c.args.letter Top c.args.i c.args.root c.args.blocks.now _ c.in-Top.is c.kept_at_foot-in-Top.ensures in
     record { links = e; tree = by_tree c.args.letter c.args.i c.args.root c.args.blocks.now _ e }

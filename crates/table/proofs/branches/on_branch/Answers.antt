@@ -22,7 +22,7 @@ loop-step-preserved c =
     let s = c.args.side in
     let bs = c.args.blocks.now in
     let e : length bs - l.step ≡ suc (length bs - (l.step + 1)) = omega arith in (
-      ap (λ k. among c.args.i (branch s bs (length bs - (l.step + 1)) k)) c.child-of-link.ensures
+      ap (λ k. among c.args.i (branch s bs (length bs - (l.step + 1)) k)) c.child_of-link.ensures
           ∙ sym (among_more s bs c.args.i _ _ l.link e c.if-link-blocks.false c.if-link-i.false) ∙ l.invariant.0,
       search rules,
     )

@@ -17,7 +17,7 @@ returns c =
     let bs = c.args.blocks.now in
     let hi = c.if-i-blocks.false in
     let hj = c.if-j-blocks.false in
-    let e = swapped_is c.args.i c.args.j bs hi hj c.rename-links.new.blocks c.rename-links.ensures in
+    let e = swapped_is c.args.i c.args.j bs hi hj c.rename_links.new.blocks c.rename_links.ensures in
     let f = c.rename.ensures ∙ swapped_root c.args.i c.args.j bs hi hj c.args.root in
     let g = swapped_gives c.args.i c.args.j bs c.args.root _ _ e f in
     record { after = e; root = f; keeps = g.0; tree = g.1 }

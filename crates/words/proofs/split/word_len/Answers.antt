@@ -2,8 +2,8 @@ use Rattle.std.proofs.Common.{arith, rules}
 use Rattle.words.proofs.Splits.{words_run}
 use Rattle.words.proofs.split.word_len.Goals as goal
 
-pub returns-else-not-is-blank : goal.returns-else-not-is-blank
-returns-else-not-is-blank c =
+pub returns-else-not-is_blank : goal.returns-else-not-is_blank
+returns-else-not-is_blank c =
     record {
       some = search rules;
       within = search rules;

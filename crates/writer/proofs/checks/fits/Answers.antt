@@ -12,11 +12,11 @@ loop-i-init c = room_begun c.args.text.now c.args.entries.now c.args.places.now 
 
 pub returns-then-n-left : goal.returns-then-n-left
 returns-then-n-left c =
-    sym (lt-leb _ _ (line_too_long c.args.text.now c.args.entries.now c.args.places.now c.loop-i.i _ _ (search rules) (search rules) _ _ _ c.loop-i.invariant c.line-len-n.ensures c.if-n-left.true))
+    sym (lt-leb _ _ (line_too_long c.args.text.now c.args.entries.now c.args.places.now c.loop-i.i _ _ (search rules) (search rules) _ _ _ c.loop-i.invariant c.line_len-n.ensures c.if-n-left.true))
 
 pub loop-i-preserved : goal.loop-i-preserved
 loop-i-preserved c =
-    line_fits c.args.text.now c.args.entries.now c.args.places.now c.loop-i.i _ _ (search rules) (search rules) _ _ _ c.loop-i.invariant c.line-len-n.ensures c.if-n-left.false
+    line_fits c.args.text.now c.args.entries.now c.args.places.now c.loop-i.i _ _ (search rules) (search rules) _ _ _ c.loop-i.invariant c.line_len-n.ensures c.if-n-left.false
 
 pub returns : goal.returns
 returns c =

@@ -8,5 +8,5 @@ returns-then-n-lt10 t c = record { is = count_one c.args.n (search rules); few =
 
 pub returns-else-n-lt10 : goal.returns-else-n-lt10
 returns-else-n-lt10 t c =
-    let e = ap (λ k. k + 1) c.digit-count.ensures.is ∙ count_more c.args.n (search rules) (search rules) in
+    let e = ap (λ k. k + 1) c.digit_count.ensures.is ∙ count_more c.args.n (search rules) (search rules) in
     record { is = e; few = omega (arith, e, length-decimal-le 10 c.args.n (omega arith) (search rules) (search rules)) }

@@ -2,12 +2,12 @@ use Rattle.std.proofs.Common.{vec_items, arith}
 use Rattle.plan.proofs.Changes.{after_take}
 use Rattle.plan.proofs.plans.Plan.take_out.Goals as goal
 
-pub invariant-of-self : goal.invariant-of-self
-invariant-of-self c =
-    let d = after_take (vec_items c.args.self.now.table.blocks) c.args.self.now.table.root (omega arith) c.args.self.now.sound c.args.self.now.fit c.args.i _ _ c.requires c.take-out.ensures.keeps c.take-out.ensures.tree in
+pub invariant_of-self : goal.invariant_of-self
+invariant_of-self c =
+    let d = after_take (vec_items c.args.self.now.table.blocks) c.args.self.now.table.root (omega arith) c.args.self.now.sound c.args.self.now.fit c.args.i _ _ c.requires c.take_out.ensures.keeps c.take_out.ensures.tree in
     (d.sound, (d.fit, tt))
 
 pub returns : goal.returns
 returns c =
-    let d = after_take (vec_items c.args.self.now.table.blocks) c.args.self.now.table.root (omega arith) c.args.self.now.sound c.args.self.now.fit c.args.i _ _ c.requires c.take-out.ensures.keeps c.take-out.ensures.tree in
+    let d = after_take (vec_items c.args.self.now.table.blocks) c.args.self.now.table.root (omega arith) c.args.self.now.sound c.args.self.now.fit c.args.i _ _ c.requires c.take_out.ensures.keeps c.take_out.ensures.tree in
     d.plan

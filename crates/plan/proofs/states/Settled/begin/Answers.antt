@@ -14,8 +14,8 @@ returns-in-Some c =
     let kept = c.args.self.kept in
     let is = c.in-Some.ensures in
     let plan : p ≡ plan_begun (edit_refusal p e) e p = ap (λ o. plan_begun o e p) is in
-    let before : meant c.copy-from.new.self ≡ p
-    = ap (λ bs. plan_of bs c.copy-from.new.self.root) c.copy-from.ensures.items ∙ ap (plan_of (vec_items c.args.self.plan.table.blocks)) c.copy-from.ensures.root in
+    let before : meant c.copy_from.new.self ≡ p
+    = ap (λ bs. plan_of bs c.copy_from.new.self.root) c.copy_from.ensures.items ∙ ap (plan_of (vec_items c.args.self.plan.table.blocks)) c.copy_from.ensures.root in
     let next : kept ≡ count_begun (edit_refusal p e) kept = ap (λ o. count_begun o kept) is in
     record {
       plan = plan;
@@ -23,7 +23,7 @@ returns-in-Some c =
       empty = ap is_some is;
       kept = refl;
       next = next;
-      told = follows_begin e p p (meant c.copy-from.new.self) kept kept kept plan before next refl;
+      told = follows_begin e p p (meant c.copy_from.new.self) kept kept kept plan before next refl;
     }
 
 pub returns-in-None : goal.returns-in-None
@@ -33,8 +33,8 @@ returns-in-None c =
     let kept = c.args.self.kept in
     let is = c.in-None.ensures in
     let plan : meant c.perform.new.self.table ≡ plan_begun (edit_refusal p e) e p = c.perform.ensures ∙ ap (λ o. plan_begun o e p) is in
-    let before : meant c.copy-from.new.self ≡ p
-    = ap (λ bs. plan_of bs c.copy-from.new.self.root) c.copy-from.ensures.items ∙ ap (plan_of (vec_items c.args.self.plan.table.blocks)) c.copy-from.ensures.root in
+    let before : meant c.copy_from.new.self ≡ p
+    = ap (λ bs. plan_of bs c.copy_from.new.self.root) c.copy_from.ensures.items ∙ ap (plan_of (vec_items c.args.self.plan.table.blocks)) c.copy_from.ensures.root in
     let next : min 4294967295 (kept + 1) ≡ count_begun (edit_refusal p e) kept = ap (λ o. count_begun o kept) is in
     record {
       plan = plan;
@@ -42,5 +42,5 @@ returns-in-None c =
       empty = ap is_some is;
       kept = refl;
       next = next;
-      told = follows_begin e p (meant c.perform.new.self.table) (meant c.copy-from.new.self) kept (min 4294967295 (kept + 1)) kept plan before next refl;
+      told = follows_begin e p (meant c.perform.new.self.table) (meant c.copy_from.new.self) kept (min 4294967295 (kept + 1)) kept plan before next refl;
     }

@@ -28,13 +28,13 @@ returns-in-Some c =
 pub fill-requires : goal.fill-requires
 fill-requires c =
     let g = given c.args.sizes.now c.args.letters.now c.args.children.now c.args.root (length c.args.walk.now) in
-    let a = accepted_tree g (sym c.in-default.ensures.answer) in
+    let a = accepted_tree g (sym c.in_default.ensures.answer) in
     record { few = a.few; letters = a.letters_long; children = a.children_long }
 
-pub invariant-of-self : goal.invariant-of-self
-invariant-of-self c =
+pub invariant_of-self : goal.invariant_of-self
+invariant_of-self c =
     let g = given c.args.sizes.now c.args.letters.now c.args.children.now c.args.root (length c.args.walk.now) in
-    let d = after_load g (vec_items c.fill.new.self.blocks) c.fill.new.self.root (sym c.in-default.ensures.answer) c.fill.ensures.items c.fill.ensures.root in
+    let d = after_load g (vec_items c.fill.new.self.blocks) c.fill.new.self.root (sym c.in_default.ensures.answer) c.fill.ensures.items c.fill.ensures.root in
     (d.sound, (d.fit, tt))
 
 pub returns : goal.returns
@@ -42,7 +42,7 @@ returns c =
     let g = given c.args.sizes.now c.args.letters.now c.args.children.now c.args.root (length c.args.walk.now) in
     let p = meant c.args.self.now.plan.table in
     let kept = c.args.self.now.kept in
-    let is = c.in-default.ensures.answer in
+    let is = c.in_default.ensures.answer in
     let d = after_load g (vec_items c.fill.new.self.blocks) c.fill.new.self.root (sym is) c.fill.ensures.items c.fill.ensures.root in
     let plan : meant c.fill.new.self ≡ plan_loaded (load_refusal g) g p = d.plan ∙ ap (λ o. plan_loaded o g p) is in
     let count : ◌≡◌ {A = ℕ} 0 (count_loaded (load_refusal g) kept) = ap (λ o. count_loaded o kept) is in
@@ -50,6 +50,6 @@ returns c =
       answer = ap (λ o. answered o (length c.args.sizes.now)) is;
       plan = plan;
       kept = count;
-      walk = c.in-default.ensures.walk;
+      walk = c.in_default.ensures.walk;
       told = follows_load g p (meant c.fill.new.self) kept 0 plan count;
     }

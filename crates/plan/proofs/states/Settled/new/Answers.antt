@@ -4,16 +4,16 @@ use Rattle.theorems.proofs.Following.{follows_new}
 use Rattle.plan.proofs.Sounds.{empty_sound}
 use Rattle.plan.proofs.states.Settled.new.Goals as goal
 
-pub invariant-of-result : goal.invariant-of-result
-invariant-of-result c =
-    let t = c.in-ok-table.table in
-    let e = c.in-ok-table.ensures in
+pub invariant_of-result : goal.invariant_of-result
+invariant_of-result c =
+    let t = c.in_ok-table.table in
+    let e = c.in_ok-table.ensures in
     let n = empty_sound (vec_items t.blocks) t.root e.0 e.1 in
     (n.0, (n.1, tt))
 
 pub returns : goal.returns
 returns c =
-    let t = c.in-ok-table.table in
-    let e = c.in-ok-table.ensures in
+    let t = c.in_ok-table.table in
+    let e = c.in_ok-table.ensures in
     let n = empty_sound (vec_items t.blocks) t.root e.0 e.1 in
     record { plain = (n.2, refl); told = subst (λ p. Settles [] p 0) (sym n.2) follows_new }

@@ -8,7 +8,7 @@ use Rattle.plan.proofs.tables.Table.swap.Goals as goal
 pub returns : goal.returns
 returns c =
     let v = c.args.self.now.blocks in
-    let e = c.swap-places-self.ensures in
-    let m = of_items (λ bs t. has_both c.args.i c.args.j t) (swap c.args.i c.args.j) _ (vec_items v) c.swap-places-self.new.blocks _ c.args.self.now.root c.swap-places-self.result
-    c.as-mut-slice.ensures.value (with_items_is v c.swap-places-self.new.blocks (omega arith)) e.keeps e.tree in
+    let e = c.swap_places-self.ensures in
+    let m = of_items (λ bs t. has_both c.args.i c.args.j t) (swap c.args.i c.args.j) _ (vec_items v) c.swap_places-self.new.blocks _ c.args.self.now.root c.swap_places-self.result
+    c.as_mut_slice.ensures.value (with_items_is v c.swap_places-self.new.blocks (omega arith)) e.keeps e.tree in
     record { keeps = m.0; tree = m.1 }

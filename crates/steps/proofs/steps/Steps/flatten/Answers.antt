@@ -4,11 +4,11 @@ use Rattle.steps.proofs.Edges.{none_ordered}
 use Rattle.steps.proofs.Flat.{flat_ordered, flat_height}
 use Rattle.steps.proofs.steps.Steps.flatten.Goals as goal
 
-pub invariant-of-self : goal.invariant-of-self
-invariant-of-self c = (omega arith, (omega arith, (none_ordered 0, tt)))
+pub invariant_of-self : goal.invariant_of-self
+invariant_of-self c = (omega arith, (omega arith, (none_ordered 0, tt)))
 
-pub invariant-of-self-2 : goal.invariant-of-self-2
-invariant-of-self-2 c = (
+pub invariant_of-self-2 : goal.invariant_of-self-2
+invariant_of-self-2 c = (
   c.requires.narrow,
   (simp length-set (omega arith), (flat_ordered c.args.self.now.runs.now c.args.columns (omega arith) (omega arith), tt)),
 )

@@ -9,13 +9,13 @@ use Rattle.steps.proofs.steps.Steps.meet.Goals as goal
 pub returns : goal.returns
 returns c =
     let s = c.args.self.now in
-    let over = c.runs-over-first.ensures in
-    let first = c.runs-over-first.result.0 in
-    let last = c.runs-over-first.result.1 in
+    let over = c.runs_over-first.ensures in
+    let first = c.runs_over-first.result.0 in
+    let last = c.runs_over-first.result.1 in
     let held = part_in_use s first (last + 1) (omega (arith, over.right.within, runs_length s)) in
     record {
       over = over;
-      largest = largest_by_columns (sky_of s) (take ((last + 1) - first) (drop first s.runs.now)) c.args.a c.args.b c.highest-top-highest.result c.requires.nonempty c.highest-top-highest.ensures
+      largest = largest_by_columns (sky_of s) (take ((last + 1) - first) (drop first s.runs.now)) c.args.a c.args.b c.highest_top-highest.result c.requires.nonempty c.highest_top-highest.ensures
           (λ k l u. ap (λ zs. highest_top run_extent zs k (k + 1)) held
           ∙ part_heights s.columns first last c.args.a c.args.b (runs_of s) s.ordered over.forward over.left over.right k l u);
     }

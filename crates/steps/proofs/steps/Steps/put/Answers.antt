@@ -4,11 +4,11 @@ use Rattle.steps.proofs.Held.{runs_length}
 use Rattle.steps.proofs.Putting.{put_ordered, put_heights}
 use Rattle.steps.proofs.steps.Steps.put.Goals as goal
 
-pub invariant-of-self : goal.invariant-of-self
-invariant-of-self c =
+pub invariant_of-self : goal.invariant_of-self
+invariant_of-self c =
     let s = c.args.self.now in
     let over = c.requires.over in
-    let pieces = c.pieces-of-count in
+    let pieces = c.pieces_of-count in
     let put = c.replace-used in
     let same : c.replace-runs.result.now ≡ s.runs.now = ap (λ r. r.now) c.replace-runs.ensures.value in
     let size = runs_length s in
@@ -28,7 +28,7 @@ pub returns : goal.returns
 returns c =
     let s = c.args.self.now in
     let over = c.requires.over in
-    let pieces = c.pieces-of-count in
+    let pieces = c.pieces_of-count in
     let put = c.replace-used in
     let same : c.replace-runs.result.now ≡ s.runs.now = ap (λ r. r.now) c.replace-runs.ensures.value in
     record {

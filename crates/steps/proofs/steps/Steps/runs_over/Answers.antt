@@ -14,12 +14,12 @@ searched_reaches : (s : Steps) (c : ℕ) → c < s.columns → Reaches (take (s.
 searched_reaches s c l =
     subst (λ xs. Reaches xs c) (sym (searched s)) (reaches 0 s.columns c (runs_of s) s.ordered (omega arith) l)
 
-pub place-near-first-requires : goal.place-near-first-requires
-place-near-first-requires c = searched_reaches c.args.self.now c.args.a (omega arith)
+pub place_near-first-requires : goal.place_near-first-requires
+place_near-first-requires c = searched_reaches c.args.self.now c.args.a (omega arith)
 
-pub last-before-last-requires : goal.last-before-last-requires
-last-before-last-requires c =
-    let first = c.place-near-first.ensures in
+pub last_before-last-requires : goal.last_before-last-requires
+last_before-last-requires c =
+    let first = c.place_near-first.ensures in
     record {
       within = first.within;
       starts = omega (arith, first.from);
@@ -28,8 +28,8 @@ last-before-last-requires c =
 
 pub returns : goal.returns
 returns c =
-    subst (λ xs. Over xs c.place-near-first.result c.last-before-last.result c.args.a c.args.b) (searched c.args.self.now) (record {
-      forward = c.last-before-last.ensures.forward;
-      left = c.place-near-first.ensures;
-      right = c.last-before-last.ensures.last;
+    subst (λ xs. Over xs c.place_near-first.result c.last_before-last.result c.args.a c.args.b) (searched c.args.self.now) (record {
+      forward = c.last_before-last.ensures.forward;
+      left = c.place_near-first.ensures;
+      right = c.last_before-last.ensures.last;
     })
