@@ -5,7 +5,7 @@ use Rattle.plan.proofs.plans.Plan.put_in.Goals as goal
 pub invariant_of-self : goal.invariant_of-self
 invariant_of-self c =
     let d = after_put (vec_items c.args.self.now.table.blocks) c.args.self.now.table.root (omega arith) c.args.self.now.sound c.args.self.now.fit c.args.i c.args.j c.args.side _ _ c.requires c.put_in.ensures.keeps c.put_in.ensures.tree in
-    (d.sound, (d.fit, tt))
+    record { sound = d.sound; fit = d.fit }
 
 pub returns : goal.returns
 returns c =

@@ -5,7 +5,7 @@ use Rattle.plan.proofs.plans.Plan.take_out.Goals as goal
 pub invariant_of-self : goal.invariant_of-self
 invariant_of-self c =
     let d = after_take (vec_items c.args.self.now.table.blocks) c.args.self.now.table.root (omega arith) c.args.self.now.sound c.args.self.now.fit c.args.i _ _ c.requires c.take_out.ensures.keeps c.take_out.ensures.tree in
-    (d.sound, (d.fit, tt))
+    record { sound = d.sound; fit = d.fit }
 
 pub returns : goal.returns
 returns c =

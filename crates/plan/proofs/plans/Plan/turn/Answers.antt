@@ -9,7 +9,7 @@ pub invariant_of-self : goal.invariant_of-self
 invariant_of-self c =
     let d = after_turn (vec_items c.args.self.now.table.blocks) c.args.self.now.table.root c.args.i (omega arith) c.args.self.now.sound c.args.self.now.fit
     (within (vec_items c.args.self.now.table.blocks) c.args.self.now.table.root (omega arith) c.args.self.now.sound c.args.self.now.fit c.args.i c.requires) _ _ c.turn.ensures.items c.turn.ensures.root in
-    (d.sound, (d.fit, tt))
+    record { sound = d.sound; fit = d.fit }
 
 pub returns : goal.returns
 returns c =

@@ -35,7 +35,7 @@ pub invariant_of-self : goal.invariant_of-self
 invariant_of-self c =
     let g = given c.args.sizes.now c.args.letters.now c.args.children.now c.args.root (length c.args.walk.now) in
     let d = after_load g (vec_items c.fill.new.self.blocks) c.fill.new.self.root (sym c.in_default.ensures.answer) c.fill.ensures.items c.fill.ensures.root in
-    (d.sound, (d.fit, tt))
+    record { sound = d.sound; fit = d.fit }
 
 pub returns : goal.returns
 returns c =

@@ -9,7 +9,7 @@ invariant_of-result c =
     let t = c.in_ok-table.table in
     let e = c.in_ok-table.ensures in
     let n = empty_sound (vec_items t.blocks) t.root e.0 e.1 in
-    (n.0, (n.1, tt))
+    record { sound = n.0; fit = n.1 }
 
 pub returns : goal.returns
 returns c =

@@ -5,13 +5,14 @@ use Rattle.steps.proofs.Flat.{flat_ordered, flat_height}
 use Rattle.steps.proofs.steps.Steps.flatten.Goals as goal
 
 pub invariant_of-self : goal.invariant_of-self
-invariant_of-self c = (omega arith, (omega arith, (none_ordered 0, tt)))
+invariant_of-self c = record { narrow = omega arith; room = omega arith; ordered = none_ordered 0 }
 
 pub invariant_of-self-2 : goal.invariant_of-self-2
-invariant_of-self-2 c = (
-  c.requires.narrow,
-  (simp length-set (omega arith), (flat_ordered c.args.self.now.runs.now c.args.columns (omega arith) (omega arith), tt)),
-)
+invariant_of-self-2 c = record {
+  narrow = c.requires.narrow;
+  room = simp length-set (omega arith);
+  ordered = flat_ordered c.args.self.now.runs.now c.args.columns (omega arith) (omega arith);
+}
 
 pub returns : goal.returns
 returns c = record {

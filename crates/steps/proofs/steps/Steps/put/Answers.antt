@@ -12,17 +12,13 @@ invariant_of-self c =
     let put = c.replace-used in
     let same : c.replace-runs.result.now ≡ s.runs.now = ap (λ r. r.now) c.replace-runs.ensures.value in
     let size = runs_length s in
-    let few = length-take (pieces.result.1 - 0) pieces.result.0 in (
-      s.narrow,
-      (
-        omega (arith, put.ensures.used, put.ensures.size, ap length same, over.right.within),
-        (
-          put_ordered s c.args.raised _ _ c.requires.nonempty over.left over.right
-              put.result pieces.result.1 _ put.new.runs pieces.result.0 same pieces.ensures.runs put.ensures.runs,
-          tt,
-        ),
-      ),
-    )
+    let few = length-take (pieces.result.1 - 0) pieces.result.0 in
+    record {
+      narrow = s.narrow;
+      room = omega (arith, put.ensures.used, put.ensures.size, ap length same, over.right.within);
+      ordered = put_ordered s c.args.raised _ _ c.requires.nonempty over.left over.right
+          put.result pieces.result.1 _ put.new.runs pieces.result.0 same pieces.ensures.runs put.ensures.runs;
+    }
 
 pub returns : goal.returns
 returns c =
