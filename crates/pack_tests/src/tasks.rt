@@ -138,8 +138,7 @@ pub fn check_over_records(
         plan,
         &mut Placed::new(&mut records, task.columns),
         task,
-    )
-    .note("placed")?;
+    )?;
     check_over(
         rt,
         heap,
@@ -147,7 +146,6 @@ pub fn check_over_records(
         &mut Steps::new(&mut runs, task.columns),
         task,
     )
-    .note("steps")
 }
 
 fn check_over_columns(
@@ -157,7 +155,7 @@ fn check_over_columns(
     task: Task<'_>,
 ) -> Result<(), Fail> {
     let mut heights = vec![in heap; 99u32; task.columns as usize]?;
-    check_over(rt, heap, plan, &mut Columns::new(&mut heights), task).note("columns")
+    check_over(rt, heap, plan, &mut Columns::new(&mut heights), task)
 }
 
 // Over each of the three kinds.

@@ -31,7 +31,7 @@ fn check_edit(
 // Edits of K, each with the tree that it gives.
 fn check_edits(rt: &impl Abort, heap: Global, cases: &[(Edit, [Place; 5])]) -> Result<(), Fail> {
     for (edit, after) in cases.iter() {
-        check_edit(rt, heap, &K, *edit, after).note(format_args!("{edit:?}"))?;
+        check_edit(rt, heap, &K, *edit, after)?;
     }
     Ok(())
 }
@@ -92,7 +92,7 @@ fn check_moves(
 ) -> Result<(), Fail> {
     for (i, j, after) in cases.iter() {
         let edit = Move(*i, *j, side);
-        check_edit(rt, heap, &K, edit, after).note(format_args!("{edit:?}"))?;
+        check_edit(rt, heap, &K, edit, after)?;
     }
     Ok(())
 }

@@ -64,7 +64,7 @@ fn check_fault(
 
 fn check_faults(rt: &impl Abort, heap: Global, cases: &[(&[Fault], u8, u32)]) -> Result<(), Fail> {
     for (faults, number, place) in cases.iter() {
-        check_fault(rt, heap, *faults, *number, *place).note(format_args!("{faults:?}"))?;
+        check_fault(rt, heap, *faults, *number, *place)?;
     }
     Ok(())
 }
@@ -213,7 +213,7 @@ fn check_byte(rt: &impl Abort, heap: Global, byte: u8) -> Result<(), Fail> {
 #[test]
 fn every_byte(rt: HostRuntime) -> Result<(), Fail> {
     for byte in 0..=255u8 {
-        check_byte(&rt, rt.alloc(), byte).note(format_args!("byte {byte}"))?;
+        check_byte(&rt, rt.alloc(), byte)?;
     }
     Ok(())
 }

@@ -60,7 +60,7 @@ fn check_lengths(rt: &impl Abort, heap: Global, cases: &[([usize; 4], u8)]) -> R
     for (lengths, number) in cases.iter() {
         let [sizes, letters, children, walk] = *lengths;
         let lists = wrong_lists(heap, sizes, letters, children)?;
-        check_refusal(rt, heap, &lists, walk, *number).note(format_args!("{lengths:?}"))?;
+        check_refusal(rt, heap, &lists, walk, *number)?;
     }
     Ok(())
 }

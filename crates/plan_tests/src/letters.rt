@@ -58,7 +58,7 @@ fn check_letter(
 ) -> Result<(), Fail> {
     for (edit, after) in cases.iter() {
         let plan = sample(rt, heap, letter, tree)?;
-        check_edit(rt, plan, before, *edit, *after).note(format_args!("{edit:?}"))?;
+        check_edit(rt, plan, before, *edit, *after)?;
     }
     Ok(())
 }
@@ -71,7 +71,7 @@ fn check_letters(
 ) -> Result<(), Fail> {
     for (letter, tree, kept) in cases.iter() {
         let plan = sample(rt, heap, *letter, tree)?;
-        check_kept(rt, &plan, *kept).note(format_args!("letter {letter}"))?;
+        check_kept(rt, &plan, *kept)?;
     }
     Ok(())
 }

@@ -30,7 +30,7 @@ fn check_refusals(rt: &impl Abort, heap: Global, cases: &[(Edit, u8, u32)]) -> R
     let mut plan = rest(rt, heap)?;
     for (edit, number, place) in cases.iter() {
         plan = begun_empty(rt, plan, *edit, *number, *place, &REST)?.undo();
-        check_tree(rt, &plan, &REST).note(format_args!("{edit:?}"))?;
+        check_tree(rt, &plan, &REST)?;
     }
     assert_eq!(rt; plan.kept(), 2);
     Ok(())
@@ -127,7 +127,7 @@ fn no_blocks(rt: HostRuntime) -> Result<(), Fail> {
         PutIn(0, 1, Side::Left),
     ] {
         plan = begun_empty(&rt, plan, edit, 9, 0, &[])?.keep();
-        check_tree(&rt, &plan, &[]).note(format_args!("{edit:?}"))?;
+        check_tree(&rt, &plan, &[])?;
     }
     assert_eq!(rt; plan.kept(), 0);
     Ok(())

@@ -61,7 +61,7 @@ fn check_place<P: Telling>(
 pub fn check_tree<P: Telling>(rt: &impl Abort, plan: &P, tree: &[Place]) -> Result<(), Fail> {
     let mut block = 0u16;
     for place in tree.iter() {
-        check_place(rt, plan, block, *place).note(format_args!("block {block}"))?;
+        check_place(rt, plan, block, *place)?;
         block = block.saturating_add(1);
     }
     check_unknown(rt, plan, block)
@@ -83,7 +83,7 @@ pub fn check_reports<P: Telling>(
 ) -> Result<(), Fail> {
     let mut block = 0u16;
     for report in reports.iter() {
-        check_report(rt, plan.tell(block)?, *report).note(format_args!("block {block}"))?;
+        check_report(rt, plan.tell(block)?, *report)?;
         block = block.saturating_add(1);
     }
     check_unknown(rt, plan, block)

@@ -46,7 +46,7 @@ fn run(rt: &impl Abort, heap: Global, steps: &[(End, Edit, [Place; 5])]) -> Resu
             count = count.saturating_add(1);
         }
         plan = ended(begun(rt, plan, *edit, after)?, *end);
-        check_state(rt, &plan, &tree, count).note(format_args!("{edit:?}"))?;
+        check_state(rt, &plan, &tree, count)?;
     }
     Ok(plan)
 }

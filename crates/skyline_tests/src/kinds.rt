@@ -55,19 +55,18 @@ fn run<S: Skyline>(rt: &impl Abort, skyline: &mut S, calls: &[(Call, Answer)]) -
     check_same(rt, skyline, &painting);
     for (call, answer) in calls.iter() {
         assert_eq!(rt; painting.make(*call), *answer);
-        check_call(rt, skyline, *call, *answer, &painting).note(format_args!("{call:?}"))?;
+        check_call(rt, skyline, *call, *answer, &painting)?;
     }
     Ok(())
 }
 
 // The same over each kind, with 12 raises over placed and steps.
 pub fn run_on_each(rt: &impl Abort, calls: &[(Call, Answer)]) -> Result<(), Fail> {
-    run(rt, &mut Columns::new(&mut [7; 24]), calls).note("columns")?;
+    run(rt, &mut Columns::new(&mut [7; 24]), calls)?;
     run(
         rt,
         &mut Placed::new(&mut [STALE_RECTANGLE; 12], WIDTH),
         calls,
-    )
-    .note("placed")?;
-    run(rt, &mut Steps::new(&mut [STALE_RUN; 25], WIDTH), calls).note("steps")
+    )?;
+    run(rt, &mut Steps::new(&mut [STALE_RUN; 25], WIDTH), calls)
 }

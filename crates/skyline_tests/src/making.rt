@@ -47,7 +47,7 @@ fn columns_made(rt: HostRuntime) -> Result<(), Fail> {
         (70_000, 70_000, 65_536),
     ] {
         let mut heights = vec![in rt.alloc(); 7u32; memory]?;
-        check_made(&rt, &mut Columns::new(&mut heights), c, r).note(memory)?;
+        check_made(&rt, &mut Columns::new(&mut heights), c, r)?;
     }
     Ok(())
 }
@@ -68,7 +68,7 @@ fn placed_made(rt: HostRuntime) -> Result<(), Fail> {
     ];
     for (memory, told, c, r) in cases {
         let mut records = vec![in rt.alloc(); STALE_RECTANGLE; memory]?;
-        check_made(&rt, &mut Placed::new(&mut records, told), c, r).note(memory)?;
+        check_made(&rt, &mut Placed::new(&mut records, told), c, r)?;
     }
     Ok(())
 }
@@ -95,7 +95,7 @@ fn steps_made(rt: HostRuntime) -> Result<(), Fail> {
     ];
     for (memory, told, c, r) in cases {
         let mut runs = vec![in rt.alloc(); STALE_RUN; memory]?;
-        check_made(&rt, &mut Steps::new(&mut runs, told), c, r).note(memory)?;
+        check_made(&rt, &mut Steps::new(&mut runs, told), c, r)?;
     }
     Ok(())
 }

@@ -38,7 +38,7 @@ pub fn check_refusal(rt: &impl Abort, text: &[u8], number: u8, place: u32) -> Re
 // Each text is refused with the number and at the place beside it.
 pub fn check_refused(rt: &impl Abort, cases: &[(&str, u8, u32)]) -> Result<(), Fail> {
     for (text, number, place) in cases.iter() {
-        check_refusal(rt, text.as_bytes(), *number, *place).note(format_args!("{text}"))?;
+        check_refusal(rt, text.as_bytes(), *number, *place)?;
     }
     Ok(())
 }
@@ -80,7 +80,7 @@ pub fn check_bodies_refused(
 ) -> Result<(), Fail> {
     for (body, number, place) in cases.iter() {
         let text = text_of(heap, hard, terminals, body)?;
-        check_refusal(rt, text.as_bytes(), *number, *place).note(format_args!("{body}"))?;
+        check_refusal(rt, text.as_bytes(), *number, *place)?;
     }
     Ok(())
 }
@@ -95,5 +95,5 @@ pub fn check_body(
     entries: &[Entry],
 ) -> Result<(), Fail> {
     let text = text_of(heap, hard, terminals, body)?;
-    check_read(rt, text.as_bytes(), entries).note(format_args!("{body}"))
+    check_read(rt, text.as_bytes(), entries)
 }

@@ -7,7 +7,7 @@ pub returns-in_default-vertex_of-3 : goal.returns-in_default-vertex_of-3
 returns-in_default-vertex_of-3 c =
     sym
     (corners_more (map (λ w. w.now) c.args.words.now) _ _ _ _ _ _ _ _ c.in-Some.ensures c.in-Some-vertex_of.ensures c.in-Some-vertex_of-2.ensures
-    c.in_default-vertex_of-3.ensures (search (rules, length-map)))
+    c.in_default-vertex_of-3.in-Some-own.ensures (search (rules, length-map)))
 
 pub returns : goal.returns
 returns c =

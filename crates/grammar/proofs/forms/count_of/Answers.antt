@@ -5,9 +5,6 @@ use Rattle.grammar.proofs.forms.count_of.Goals as goal
 pub returns-in_default : goal.returns-in_default
 returns-in_default c = count_else (λ w. w.now) c.args.words.now c.args.label.now (λ h. search rules)
 
-pub returns-in_default·2 : goal.returns-in_default·2
-returns-in_default·2 c = count_else (λ w. w.now) c.args.words.now c.args.label.now (λ h. search rules)
-
 pub returns-then-is : goal.returns-then-is
 returns-then-is c =
     count_at (λ w. w.now) c.args.words.now c.args.label.now _ _ _ (search rules) c.is.ensures c.is-2.ensures _ c.if-is.true
