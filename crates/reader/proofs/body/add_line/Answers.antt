@@ -16,18 +16,18 @@ pub bounds-found-blocks : goal.bounds-found-blocks
 bounds-found-blocks c =
     let said = c.in-Block.ensures in
     let room = c.requires.gathered.room in
-    omega (arith, room_left c.args.text.now c.args.found.now c.args.tally c.requires.gathered (line_at c.args.line) said.0 _ _ said.1 c.in_ok-entry.entry c.in_ok-entry.ensures.0)
+    omega (arith, room_left c.args.text.now c.args.found.now c.args.tally c.requires.gathered (line_at c.args.line) said.0 _ _ said.1 c.in_ok-entry-in-Block.entry c.in_ok-entry-in-Block.ensures.0)
 
-pub returns-in_ok-entry : goal.returns-in_ok-entry
-returns-in_ok-entry c =
+pub returns-in_ok-entry-in-Block : goal.returns-in_ok-entry-in-Block
+returns-in_ok-entry-in-Block c =
     let said = c.in-Block.ensures in
-    let read = c.in_ok-entry.ensures in
-    block_read c.args.text.now c.args.found.now c.args.tally c.requires.gathered (line_at c.args.line) said.0 _ _ said.1 c.in_ok-entry.entry read.0 read.1
+    let read = c.in_ok-entry-in-Block.ensures in
+    block_read c.args.text.now c.args.found.now c.args.tally c.requires.gathered (line_at c.args.line) said.0 _ _ said.1 c.in_ok-entry-in-Block.entry read.0 read.1
 
-pub returns-in_err-entry : goal.returns-in_err-entry
-returns-in_err-entry c =
+pub returns-in_err-entry-in-Block : goal.returns-in_err-entry-in-Block
+returns-in_err-entry-in-Block c =
     let said = c.in-Block.ensures in
-    let p = err_from_is_err_and c.from-residual.result c.from-residual.ensures.1 in
+    let p = err_from_is_err_and c.from_residual.result c.from_residual.ensures.1 in
     rw (p.1, p.2)
     (block_refused c.args.text.now c.args.found.now c.args.tally c.requires.gathered (line_at c.args.line) said.0 _ _ said.1 _ c.args.found.now
-    c.in_err-entry.ensures)
+    c.in_err-entry-in-Block.ensures)

@@ -16,7 +16,7 @@ returns-in_err-count c =
     let records = c.args.records.now in
     let refused = not_too_long c.args.text.now _ (search rules) c.in_err-count.ensures in
     let room = refused_room c.args.text.now records _ refused in
-    let p = err_from_is_err_and c.from-residual.result c.from-residual.ensures.1 in
+    let p = err_from_is_err_and c.from_residual.result c.from_residual.ensures.1 in
     record { answer = rw (p.1, p.2) (ap answer_of (sym room)); records = ap (λ a. records_after a records) (sym room); names = refused_names c.args.text.now records _ refused }
 
 pub returns-then-records-count : goal.returns-then-records-count
