@@ -2,7 +2,7 @@
 use Rattle.std.proofs.Common.{◌≡◌, ℕ, ◌+◌, ◌<◌, ◌≤◌, ◌≢◌, List, [], ◌∷◌, ◌++◌, map, length, get_or, take, drop, sym, refl, ap, ◌∙◌, subst, take-append-drop}
 use Rattle.std.proofs.lemmas.List.{take_more, take_all, map-append}
 use Rattle.rules.specs.Skylines.{Sky}
-use Rattle.rules.specs.Book.{Call, Book, new_book, book_plan, fed, book_from, book, State, settled, out_of_turn, state_from, state_after}
+use Rattle.rules.specs.Book.{Call, Book, new_book, book_plan, fed, book_from, book, settled, out_of_turn, state_from, state_after}
 use Rattle.theorems.proofs.Books.{state-from-++, out_of_turn_stays}
 use Rattle.calls.specs.declared.call.Call.{Call as Given}
 use Rattle.calls.specs.declared.desk.Desk.{Desk}

@@ -1,5 +1,5 @@
 -- One call more: what it makes of the plan in hand and of the caller's memory.
-use Rattle.std.proofs.Common.{◌≡◌, ℕ, ◌≢◌, List, [], ◌∷◌, ◌++◌, sym, refl, ap, ◌∙◌}
+use Rattle.std.proofs.Common.{◌≡◌, ℕ, ◌≢◌, List, [], ◌∷◌, ◌++◌, refl, ap, ◌∙◌}
 use Rattle.rules.specs.declared.edits.Edit.{Edit}
 use Rattle.rules.specs.declared.placements.Placement.{Placement}
 use Rattle.rules.specs.Plans.{Plan}

@@ -1,5 +1,5 @@
 -- What the calls of a list say.
-use Rattle.std.specs.Prelude.{ℕ, min, List, [], ◌∷◌, Some, None, Option}
+use Rattle.std.specs.Prelude.{ℕ, min, Some, None, Option}
 use Rattle.rules.specs.Loads.{Given}
 use Rattle.rules.specs.Book as book
 use Rattle.loading.specs.Told.{given}

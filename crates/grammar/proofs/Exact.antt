@@ -4,7 +4,7 @@ use Rattle.std.specs.Str.{bytes_eq}
 use Rattle.std.proofs.lemmas.Slice.Eq.{bytes_eq-Decides}
 use Rattle.std.proofs.lemmas.Bool.{cond-true, cond-false, cases_Bool, and_parts, and_from, eqb-true, eq-eqb, both_ways}
 use Rattle.rules.specs.declared.blocks.Size.{Size}
-use Rattle.words.specs.Words.{Word, first, with_rest}
+use Rattle.words.specs.Words.{Word, with_rest}
 use Rattle.words.specs.Numbers.{number_of}
 use Rattle.words.specs.Arguments.{then, argument, end}
 use Rattle.names.specs.Names.{is_name}

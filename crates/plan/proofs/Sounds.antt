@@ -2,7 +2,7 @@
 use Rattle.std.proofs.Common.{◌≡◌, ℕ, ◌<◌, ◌≤◌, Bool, true, false, cond, eqb, ltb, List, [], map, length, sym, ap, ◌∙◌, subst, arith}
 use Rattle.std.proofs.lemmas.Bool.{eq-eqb, ne_eqb, lt-ltb, le-ltb}
 use Rattle.std.proofs.lemmas.List.{length-map, get_or-map, ext_get_or}
-use Rattle.rules.specs.Trees.{Tree, empty, node, count, size}
+use Rattle.rules.specs.Trees.{Tree, empty, node, count}
 use Rattle.rules.specs.Links.{Spells}
 use Rattle.rules.specs.Plans.{Plan, new_plan, block_count, present, bare}
 use Rattle.rules.specs.Edits.{with_tree}

@@ -3,7 +3,6 @@ use Rattle.plan.specs.Meaning.{rows, root_of}
 use Rattle.plan.specs.Sound.{plan_of}
 use Rattle.packer.specs.Gives.{PackGives}
 use Rattle.packer.specs.Shows.{PackShows}
-use Rattle.calls.specs.declared.desk.Desk.{Desk}
 use Rattle.calls.proofs.Handing.{plan_in, in_book, pack_told, pack_promises}
 use Rattle.calls.proofs.hand.pack_in_hand.Goals as goal
 

@@ -1,6 +1,5 @@
 use Rattle.std.proofs.Common.{◌≡◌, min, List, [], ◌∷◌, ◌++◌, length, take, drop, Some, None, ap, ◌∙◌, subst, arith, take-append-drop}
 use Rattle.std.proofs.lemmas.List.{length-take}
-use Rattle.rules.specs.declared.refusals.Refusal.{Refusal}
 use Rattle.rules.specs.Loads.{room_refusal}
 use Rattle.rules.specs.Book.{Call, load}
 use Rattle.loading.specs.Told.{given}

@@ -1,8 +1,8 @@
-use Rattle.std.proofs.Common.{◌≡◌, ◌≢◌, List, [], ◌∷◌, ◌++◌, map, length, take, sym, subst}
-use Rattle.rules.specs.Book.{Call, new_book, book, book_plan, state_after, out_of_turn}
+use Rattle.std.proofs.Common.{map, length, take, subst}
+use Rattle.rules.specs.Book.{new_book}
 use Rattle.calls.specs.Said.{said}
 use Rattle.calls.specs.Desks.{DeskBy}
-use Rattle.calls.specs.Runs.{Memory, memory, CallLeaves, Performed}
+use Rattle.calls.specs.Runs.{memory, Performed}
 use Rattle.calls.proofs.Running.{take_whole, told_more, performed_more}
 use Rattle.calls.proofs.performing.perform.Goals as goal
 

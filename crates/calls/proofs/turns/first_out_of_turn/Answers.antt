@@ -1,4 +1,4 @@
-use Rattle.std.proofs.Common.{Some, sym, ◌∙◌}
+use Rattle.std.proofs.Common.{Some, ◌∙◌}
 use Rattle.calls.specs.Said.{said, as_state}
 use Rattle.calls.proofs.Turning.{first_out_here, first_out_later, first_out_none}
 use Rattle.calls.proofs.turns.first_out_of_turn.Goals as goal
