@@ -1,6 +1,6 @@
 -- What is known of the blocks that a text says.
 use Rattle.std.proofs.Common.{◌≡◌, ℕ, ◌+◌, ◌≤◌, true, List, [], ◌∷◌, length, Ok, arith, length-append}
-use Rattle.std.specs.List.{AllByRecursion as All}
+use Rattle.std.specs.List.{AllByRecursion}
 use Rattle.rules.specs.Plans.{size_fits}
 use Rattle.grammar.specs.Lines.{Line}
 use Rattle.reader.specs.Text.{Block, said}
@@ -15,9 +15,9 @@ Fits b = size_fits b.size ≡ true
 pub record Fine (text : List ℕ) (bs : List Block) : Type 0 where
   pub short : length text ≤ 65536
   pub few : length bs ≤ 512
-  pub fit : All Fits bs
+  pub fit : AllByRecursion Fits bs
 
-lines_fine : (before : List Block) (ls : List Line) (bs : List Block) (t : ℕ) → BodyLines before ls bs t → length before ≤ 512 → (length before + length bs ≤ 512) × All Fits bs
+lines_fine : (before : List Block) (ls : List Line) (bs : List Block) (t : ℕ) → BodyLines before ls bs t → length before ≤ 512 → (length before + length bs ≤ 512) × AllByRecursion Fits bs
 lines_fine before _ _ _ end_of_lines h = (omega arith, tt)
 lines_fine before _ bs _ (terminal_line {ls = ls} {t = t} n i rest) h = lines_fine before ls bs t rest h
 lines_fine before _ _ t (block_line {ls = ls} {b = b} {bs = bs} i rest) h =

@@ -1,6 +1,6 @@
 -- From what a text says to what the reader answers, and to what is written.
 use Rattle.std.proofs.Common.{◌≡◌, ℕ, zero, suc, ◌<◌, ◌≤◌, Bool, true, false, cond, ltb, List, [], ◌∷◌, map, length, take, drop, is_some, None, Ok, Err, Result, sym, refl, ap, ◌∙◌, subst, arith, length-append}
-use Rattle.std.specs.List.{AllByRecursion as All}
+use Rattle.std.specs.List.{AllByRecursion}
 use Rattle.std.proofs.lemmas.List.{length-map, take_at}
 use Rattle.std.proofs.lemmas.Bool.{le-ltb, not_from_true}
 use Rattle.rules.specs.declared.blocks.Size.{Size}
@@ -68,17 +68,17 @@ pub refusing : (text : List ℕ) (room : ℕ) (e : Refusal) → 512 ≤ room →
 refusing text room e many answer = refused_by text room e many (said text) refl answer
 
 -- the entries of blocks with names in the text, and with sides in range
-named_at : (text : List ℕ) (bs : List Block) → All (Named text) bs → (k : ℕ) → k < length (map entry_of bs) → unnamed text (map entry_of bs) k ≡ false
+named_at : (text : List ℕ) (bs : List Block) → AllByRecursion (Named text) bs → (k : ℕ) → k < length (map entry_of bs) → unnamed text (map entry_of bs) k ≡ false
 named_at text [] h k l = absurd (omega arith)
 named_at text (b ∷ bs) h zero l = not_from_true _ (ap is_some h.0)
 named_at text (b ∷ bs) h (suc k) l = named_at text bs h.1 k (omega arith)
 
-fits_at : (bs : List Block) → All Fits bs → (k : ℕ) → k < length (map size_of (map entry_of bs)) → size_fits (size_at (map size_of (map entry_of bs)) k) ≡ true
+fits_at : (bs : List Block) → AllByRecursion Fits bs → (k : ℕ) → k < length (map size_of (map entry_of bs)) → size_fits (size_at (map size_of (map entry_of bs)) k) ≡ true
 fits_at [] h k l = absurd (omega arith)
 fits_at (b ∷ bs) h zero l = h.0
 fits_at (b ∷ bs) h (suc k) l = fits_at bs h.1 k (omega arith)
 
-names_are : (text : List ℕ) (bs : List Block) → All (Named text) bs → map (marked text) (map entry_of bs) ≡ names bs
+names_are : (text : List ℕ) (bs : List Block) → AllByRecursion (Named text) bs → map (marked text) (map entry_of bs) ≡ names bs
 names_are text [] h = refl
 names_are text (b ∷ bs) h = λ j. sym (name_is_marked text (entry_of b) b.name (sym h.0)) j ∷ names_are text bs h.1 j
 
@@ -93,7 +93,7 @@ pub record Ready (text : List ℕ) (es : List Entry) : Type 0 where
   pub named : (k : ℕ) → k < length es → unnamed text es k ≡ false
   pub sized : first (wrong_size (map size_of es)) 0 (length (map size_of es)) ≡ None
 
-module _ (text : List ℕ) (bs : List Block) (es : List Entry) (says : said text ≡ Ok bs) (is : es ≡ map entry_of bs) (all : All (Named text) bs) where
+module _ (text : List ℕ) (bs : List Block) (es : List Entry) (says : said text ≡ Ok bs) (is : es ≡ map entry_of bs) (all : AllByRecursion (Named text) bs) where
   pub ready : Ready text es
   ready =
       let fine = said_fine text bs says in

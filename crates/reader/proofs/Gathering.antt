@@ -1,6 +1,6 @@
 -- One line of the body after the other.
 use Rattle.std.proofs.Common.{◌≡◌, ℕ, ◌+◌, ◌-◌, ◌<◌, true, false, not, leb, List, [], ◌∷◌, ◌++◌, map, length, take, set, is_some, Some, None, Ok, Err, Option, Result, sym, ap, ◌∙◌, subst, arith}
-use Rattle.std.specs.List.{AllByRecursion as All}
+use Rattle.std.specs.List.{AllByRecursion}
 use Rattle.std.proofs.ByRecursion.{All-push}
 use Rattle.std.proofs.lemmas.List.{take_more_set, map_push, length-map, length-set, length-take-le}
 use Rattle.std.proofs.lemmas.Bool.{cond-true, cond-false, cond_both, leb-false}
@@ -92,7 +92,7 @@ module _ (text : List ℕ) (found : List Entry) (t : Tally) (g : Gathered text f
           record {
             room = let r = g.room in omega (arith, length-set found t.blocks e);
             few = omega (arith, room_left);
-            marks = subst (All (Marks text)) (sym grown) (All-push (Marks text) (take t.blocks found) e g.marks m);
+            marks = subst (AllByRecursion (Marks text)) (sym grown) (All-push (Marks text) (take t.blocks found) e g.marks m);
           },
           omega arith,
           λ c ls.

@@ -1,6 +1,6 @@
 -- The whole text.
 use Rattle.std.proofs.Common.{◌≡◌, ℕ, ◌+◌, ◌-◌, ◌<◌, ◌≤◌, Bool, true, false, ◌&&◌, eqb, ltb, leb, List, [], ◌∷◌, ◌++◌, map, length, take, drop, Some, None, Ok, Err, sym, refl, ap, ◌∙◌, subst, ⊎_elim, arith}
-use Rattle.std.specs.List.{AllByRecursion as All}
+use Rattle.std.specs.List.{AllByRecursion}
 use Rattle.std.proofs.lemmas.List.{length-map, length-take-le, length-drop}
 use Rattle.std.proofs.lemmas.Bool.{cond-true, cond-false, cases_Bool, and_parts, lt-ltb, le-ltb, leb-true}
 use Rattle.rules.specs.declared.refusals.Refusal.{Refusal}
@@ -50,11 +50,11 @@ module _ (text : List ℕ) (e : Entry) (m : Marks text e) where
   entry_back : entry_of (block_at text e) ≡ e
   entry_back = λ i. record { start = e.start; len = marked_long i; width = e.width; height = e.height }
 
-entries_back : (text : List ℕ) (es : List Entry) → All (Marks text) es → map entry_of (map (block_at text) es) ≡ es
+entries_back : (text : List ℕ) (es : List Entry) → AllByRecursion (Marks text) es → map entry_of (map (block_at text) es) ≡ es
 entries_back text [] h = refl
 entries_back text (e ∷ es) h = λ i. entry_back text e h.0 i ∷ entries_back text es h.1 i
 
-all_named : (text : List ℕ) (es : List Entry) → All (Marks text) es → All (Named text) (map (block_at text) es)
+all_named : (text : List ℕ) (es : List Entry) → AllByRecursion (Marks text) es → AllByRecursion (Named text) (map (block_at text) es)
 all_named text [] h = tt
 all_named text (e ∷ es) h = (ap (name_of text) (entry_back text e h.0) ∙ h.0, all_named text es h.1)
 
@@ -65,7 +65,7 @@ module _ (text : List ℕ) (records : List Entry) where
     pub refused_room : in_room (length records) (said text) ≡ Err x
     refused_room = ap (in_room (length records)) refused
 
-    pub refused_names : (blocks : List Block) → said text ≡ Ok blocks → All (Named text) blocks
+    pub refused_names : (blocks : List Block) → said text ≡ Ok blocks → AllByRecursion (Named text) blocks
     refused_names blocks e = absurd (err_ok (sym refused ∙ e))
 
   -- it is not
@@ -76,10 +76,10 @@ module _ (text : List ℕ) (records : List Entry) where
     long : length (blocks_in text found n) ≡ n
     long = blocks_long text found n (let low = read.1 in let high = read.2 in omega arith)
 
-    pub accepted_names : (blocks : List Block) → said text ≡ Ok blocks → All (Named text) blocks
+    pub accepted_names : (blocks : List Block) → said text ≡ Ok blocks → AllByRecursion (Named text) blocks
     accepted_names blocks e =
         let same : blocks_in text found n ≡ blocks = cc (sym accepted ∙ e) in
-        subst (All (Named text)) same (all_named text (take n found) read.3)
+        subst (AllByRecursion (Named text)) same (all_named text (take n found) read.3)
 
     pub no_room : length records < n → in_room (length records) (said text) ≡ Err MemoryTooShort
     no_room h =

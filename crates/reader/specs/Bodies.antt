@@ -1,6 +1,6 @@
 -- The body of a text, line by line.
 use Rattle.std.specs.Prelude.{◌≡◌, ℕ, ◌+◌, ◌≤◌, List, [], ◌∷◌, length, take, Ok, Err, Result}
-use Rattle.std.specs.List.{AllByRecursion as All}
+use Rattle.std.specs.List.{AllByRecursion}
 use Rattle.rules.specs.declared.refusals.Refusal.{Refusal}
 use Rattle.names.specs.declared.entries.Entry.{Entry}
 use Rattle.grammar.specs.Lines.{Line, used_from}
@@ -15,7 +15,7 @@ use Rattle.reader.specs.Found.{Marks, blocks_in}
 pub record Gathered (text : List ℕ) (found : List Entry) (t : Tally) : Type 0 where
   pub room : 512 ≤ length found
   pub few : t.blocks ≤ 512
-  pub marks : All (Marks text) (take t.blocks found)
+  pub marks : AllByRecursion (Marks text) (take t.blocks found)
 
 -- the body goes on with these lines behind what was found so far
 abbrev pub from_here : List ℕ → List Entry → Tally → Counts → List Line → Answer
@@ -42,5 +42,5 @@ CountsRead text (Err e) = said_by (used_from 1 0 text) ≡ Err e
 -- the whole text has been read, or is refused
 abbrev pub TextRead : List ℕ → Result ℕ Refusal → List Entry → Type 0
 TextRead text (Ok n) after =
-    (said_by (used_from 1 0 text) ≡ Ok (blocks_in text after n)) × (n ≤ 512) × (512 ≤ length after) × All (Marks text) (take n after)
+    (said_by (used_from 1 0 text) ≡ Ok (blocks_in text after n)) × (n ≤ 512) × (512 ≤ length after) × AllByRecursion (Marks text) (take n after)
 TextRead text (Err e) after = said_by (used_from 1 0 text) ≡ Err e

@@ -1,6 +1,6 @@
 // The blocks that were found in a text.
 ghost use Rattle.std.specs.Prelude.{◌≡◌, ◌+◌, ◌≤◌, map, length, Some};
-ghost use Rattle.std.specs.List.{AllByRecursion as All};
+ghost use Rattle.std.specs.List.{AllByRecursion};
 ghost use Rattle.std.specs.Str.{bytes_eq};
 ghost use Rattle.rules.specs.Plans.{size_fits};
 ghost use Rattle.names.specs.Entries.{marked};
@@ -31,7 +31,7 @@ fn is_marked(text: &[u8], entry: Entry, name: &[u8]) -> bool
 
 // Whether one of the entries marks this name.
 fn is_known(text: &[u8], found: &[Entry], name: &[u8]) -> bool
-    requires { All (Marks text.now) found.now }
+    requires { AllByRecursion (Marks text.now) found.now }
     ensures { result ≡ known name.now (map (block_at text.now) found.now) }
 {
     for entry in found {
@@ -74,7 +74,7 @@ pub(crate) fn new_entry(
     requires few { length text.now ≤ 65536 }
     requires stands { Stands text.now (line_at line) }
     requires says { outline_of (words_of (line_at line)) ≡ Some (outline.name.now, outline.corners) }
-    requires marks { All (Marks text.now) found.now }
+    requires marks { AllByRecursion (Marks text.now) found.now }
     ensures { EntryRead text.now (sized_block (map (block_at text.now) found.now) (line_at line.entry) outline.entry.name.now (size_of outline.entry.corners)) result }
 {
     let Some(size) = outline.corners.size() else {

@@ -1,6 +1,6 @@
 // A whole text.
 ghost use Rattle.std.specs.Prelude.{◌≡◌, ◌≤◌, ◌&&◌, List, length, Ok, ◌==◌};
-ghost use Rattle.std.specs.List.{AllByRecursion as All};
+ghost use Rattle.std.specs.List.{AllByRecursion};
 ghost use Rattle.reader.specs.Bodies.{TextRead};
 ghost use Rattle.reader.specs.Found.{Named};
 ghost use Rattle.reader.specs.Text.{Block, said, in_room, answer_of, records_after};
@@ -41,7 +41,7 @@ fn read_text(text: &[u8], found: &mut [Entry]) -> Result<usize, Refusal>
 pub fn read_blocks(text: &[u8], records: &mut [Entry]) -> Result<usize, Refusal>
     ensures answer { result ≡ answer_of (in_room (length records.old) (said text.now)) }
     ensures records { records.new ≡ records_after (in_room (length records.old) (said text.now)) records.old }
-    ensures names { (blocks : List Block) → said text.now ≡ Ok blocks → All (Named text.now) blocks }
+    ensures names { (blocks : List Block) → said text.now ≡ Ok blocks → AllByRecursion (Named text.now) blocks }
 {
     if text.len() > LONGEST_TEXT {
         return Err(Refusal::TextTooLong);
