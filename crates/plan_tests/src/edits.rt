@@ -21,10 +21,10 @@ fn check_edit(
     let plan = sample(rt, heap, b'F', before)?;
     let plan = begun(rt, plan, edit, after)?.undo();
     check_tree(rt, &plan, before)?;
-    assert_eq!(rt; plan.kept(), 0);
+    assert_eq!(rt; plan.kept(), 0, "{edit:?}");
     let plan = begun(rt, plan, edit, after)?.keep();
     check_tree(rt, &plan, after)?;
-    assert_eq!(rt; plan.kept(), 1);
+    assert_eq!(rt; plan.kept(), 1, "{edit:?}");
     Ok(())
 }
 

@@ -58,7 +58,7 @@ fn check_fault(
     let mut plan = counted_k(rt, heap)?;
     check_refused(rt, lists.load(&mut plan, &mut [0; 3]), number, place)?;
     check_reports(rt, &plan, &reports_of_k())?;
-    assert_eq!(rt; plan.kept(), 2);
+    assert_eq!(rt; plan.kept(), 2, "{faults:?}");
     Ok(())
 }
 
@@ -202,7 +202,7 @@ fn check_byte(rt: &impl Abort, heap: Global, byte: u8) -> Result<(), Fail> {
     let answer = lists.load(&mut plan, &mut [0; 2]);
     match byte {
         b'F' | b'T' | b'B' | b'L' | b'R' => {
-            assert_eq!(rt; answer, Ok(2));
+            assert_eq!(rt; answer, Ok(2), "byte {byte}");
             Ok(())
         },
         _ => check_refused(rt, answer, 4, 1),

@@ -51,7 +51,11 @@ fn check_place<P: Telling>(
     match place {
         Place::Out => check_refused(rt, plan.tell(block), 21, block as u32),
         _ => {
-            assert_eq!(rt; plan.tell(block)?.children, place.children());
+            assert_eq!(rt;
+                plan.tell(block)?.children,
+                place.children(),
+                "block {block}"
+            );
             Ok(())
         },
     }

@@ -44,7 +44,7 @@ pub fn check_call<S: Skyline>(
     answer: Answer,
     painting: &Painting,
 ) -> Result<(), Fail> {
-    assert_eq!(rt; make(skyline, call), answer);
+    assert_eq!(rt; make(skyline, call), answer, "{call:?}");
     check_same(rt, skyline, painting);
     Ok(())
 }
