@@ -22,24 +22,24 @@ out_by cs c s e n = state-from-++ book.settled cs (c ∷ []) ∙ ap (λ t. book.
 pub settled_rest : (records : ℕ) (call : Call) (cs : List book.Call) (p : Plan) (kept : ℕ)
     → ((l : Loading) → call ≡ Load l → ⊥) → ((e : Edit) → call ≡ Test e → ⊥) → ((e : Edit) → call ≡ Begin e → ⊥)
     → book.Settles cs p kept → book.state_after (cs ++ (said records call ∷ [])) ≢ book.out_of_turn → book.Settles (cs ++ (said records call ∷ [])) p kept
-settled_rest records (Load l) cs p kept no_load no_test no-begin h turn = absurd (no_load l refl)
-settled_rest records (Test e) cs p kept no_load no_test no-begin h turn = absurd (no_test e refl)
-settled_rest records (Begin e) cs p kept no_load no_test no-begin h turn = absurd (no-begin e refl)
-settled_rest records Keep cs p kept no_load no_test no-begin h turn = absurd (turn (out_by cs book.keep book.settled h.state refl))
-settled_rest records Undo cs p kept no_load no_test no-begin h turn = absurd (turn (out_by cs book.undo book.settled h.state refl))
-settled_rest records Pack cs p kept no_load no_test no-begin h turn = follows_pack_settled p kept cs h
+settled_rest records (Load l) cs p kept no_load no_test no_begin h turn = absurd (no_load l refl)
+settled_rest records (Test e) cs p kept no_load no_test no_begin h turn = absurd (no_test e refl)
+settled_rest records (Begin e) cs p kept no_load no_test no_begin h turn = absurd (no_begin e refl)
+settled_rest records Keep cs p kept no_load no_test no_begin h turn = absurd (turn (out_by cs book.keep book.settled h.state refl))
+settled_rest records Undo cs p kept no_load no_test no_begin h turn = absurd (turn (out_by cs book.undo book.settled h.state refl))
+settled_rest records Pack cs p kept no_load no_test no_begin h turn = follows_pack_settled p kept cs h
 
 -- an open trial that stays as it is: the call is a packing, or out of turn
 pub tried_rest : (records : ℕ) (call : Call) (cs : List book.Call) (p before : Plan) (kept_next kept : ℕ)
     → (call ≡ Keep → ⊥) → (call ≡ Undo → ⊥)
     → book.Tries cs p before kept_next kept → book.state_after (cs ++ (said records call ∷ [])) ≢ book.out_of_turn
     → book.Tries (cs ++ (said records call ∷ [])) p before kept_next kept
-tried_rest records (Load l) cs p before kept_next kept no-keep no-undo h turn = absurd (turn (out_by cs _ book.tried h.state refl))
-tried_rest records (Test e) cs p before kept_next kept no-keep no-undo h turn = absurd (turn (out_by cs _ book.tried h.state refl))
-tried_rest records (Begin e) cs p before kept_next kept no-keep no-undo h turn = absurd (turn (out_by cs _ book.tried h.state refl))
-tried_rest records Keep cs p before kept_next kept no-keep no-undo h turn = absurd (no-keep refl)
-tried_rest records Undo cs p before kept_next kept no-keep no-undo h turn = absurd (no-undo refl)
-tried_rest records Pack cs p before kept_next kept no-keep no-undo h turn = follows_pack_tried p before kept_next kept cs h
+tried_rest records (Load l) cs p before kept_next kept no_keep no_undo h turn = absurd (turn (out_by cs _ book.tried h.state refl))
+tried_rest records (Test e) cs p before kept_next kept no_keep no_undo h turn = absurd (turn (out_by cs _ book.tried h.state refl))
+tried_rest records (Begin e) cs p before kept_next kept no_keep no_undo h turn = absurd (turn (out_by cs _ book.tried h.state refl))
+tried_rest records Keep cs p before kept_next kept no_keep no_undo h turn = absurd (no_keep refl)
+tried_rest records Undo cs p before kept_next kept no_keep no_undo h turn = absurd (no_undo refl)
+tried_rest records Pack cs p before kept_next kept no_keep no_undo h turn = follows_pack_tried p before kept_next kept cs h
 
 pub walk_same : (c : book.Call) (walk : List ℕ) → WalkLeft c walk walk
 walk_same (book.load g) walk = λ reason e. refl

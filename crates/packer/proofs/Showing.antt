@@ -24,19 +24,19 @@ accepted (Some w) v x r e f = let z : ◌≡◌ {A = ℕ} 0 1 = cc in absurd (om
 front : (p : Plan) (before : List Placement) → take (block_count p) (with_placements p before) ≡ placements p
 front p before = take_at (placements p) (drop (block_count p) before) (block_count p) (length-map-range_with_len (record_of (packed p)) 0 (block_count p))
 
-module _ {S : Type 0} {meaning : S → Sky} {p : Plan} {before after : S} {walk_before walk_after : List Spot} {places-before places-after : List Placement} {r : Result Extent Refusal}
-    (g : PackGives meaning p before after walk_before walk_after places-before places-after r) where
-  packs : (x : Extent) → r ≡ Ok x → Packs p x.width x.height places-after
+module _ {S : Type 0} {meaning : S → Sky} {p : Plan} {before after : S} {walk_before walk_after : List Spot} {places_before places_after : List Placement} {r : Result Extent Refusal}
+    (g : PackGives meaning p before after walk_before walk_after places_before places_after r) where
+  packs : (x : Extent) → r ≡ Ok x → Packs p x.width x.height places_after
   packs x e =
       let v = accepted _ (extent_of p) x r g.answer e in
       record {
-        records = ap (take (block_count p)) (g.records x e) ∙ front p places-before;
+        records = ap (take (block_count p)) (g.records x e) ∙ front p places_before;
         width_is = ap (λ (y : Extent). y.width) v;
         height_is = ap (λ (y : Extent). y.height) v;
       }
 
-  pub shows : PackShows p (meaning after) places-after r
+  pub shows : PackShows p (meaning after) places_after r
   shows = record {
-    settled = λ cs kept s. (follows_pack_settled p kept cs s, λ x e. promise_of_settled cs p kept x.width x.height places-after (meaning before) (meaning after) s (packs x e) (g.skyline x e));
-    tried = λ cs back next kept t. (follows_pack_tried p back next kept cs t, λ x e. promise_of_tried cs p back next kept x.width x.height places-after (meaning before) (meaning after) t (packs x e) (g.skyline x e));
+    settled = λ cs kept s. (follows_pack_settled p kept cs s, λ x e. promise_of_settled cs p kept x.width x.height places_after (meaning before) (meaning after) s (packs x e) (g.skyline x e));
+    tried = λ cs back next kept t. (follows_pack_tried p back next kept cs t, λ x e. promise_of_tried cs p back next kept x.width x.height places_after (meaning before) (meaning after) t (packs x e) (g.skyline x e));
   }

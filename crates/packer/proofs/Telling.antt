@@ -10,8 +10,8 @@ use Rattle.packer.specs.Tells.{PackTells}
 
 pub pack_tells : {S : Type 0} (meaning : S → Sky) → PackTells meaning
 unfolding pack_refusal
-pack_tells meaning p before after spots places-before places-after r some gives =
+pack_tells meaning p before after spots places_before places_after r some gives =
     let none : ltb 0 (present_count p) ≡ true = lt-ltb 0 (present_count p) some in
-    let short : pack_refusal p (meaning before) 0 (length places-before) ≡ Some MemoryTooShort = rw none in
+    let short : pack_refusal p (meaning before) 0 (length places_before) ≡ Some MemoryTooShort = rw none in
     let is : r ≡ Err MemoryTooShort = gives.answer ∙ ap (λ o. answered o (extent_of p)) short in
     record { answer = is; skyline = gives.skyline_kept MemoryTooShort is; walk = gives.walk_kept is; places = gives.records_kept MemoryTooShort is }

@@ -35,11 +35,11 @@ extent_of p = record { width = reach (packed p); height = height (packed p) }
 -- the records behind them as they were, and each column at the height that the packing gives it. Refused, it leaves records
 -- and skyline as they were, and with 18 the walk memory too.
 pub record PackGives {S : Type 0} (meaning : S → Sky) (p : Plan) (before after : S) (walk_before walk_after : List Spot)
-    (places-before places-after : List Placement) (r : Result Extent Refusal) : Type 0 where
-  pub answer : r ≡ answered (pack_refusal p (meaning before) (length walk_before) (length places-before)) (extent_of p)
+    (places_before places_after : List Placement) (r : Result Extent Refusal) : Type 0 where
+  pub answer : r ≡ answered (pack_refusal p (meaning before) (length walk_before) (length places_before)) (extent_of p)
   pub never_too_high : r ≡ Err TopTooHigh → ⊥
-  pub records : (x : Extent) → r ≡ Ok x → places-after ≡ with_placements p places-before
+  pub records : (x : Extent) → r ≡ Ok x → places_after ≡ with_placements p places_before
   pub skyline : (x : Extent) → r ≡ Ok x → Under p (meaning before) (meaning after)
-  pub records_kept : (e : Refusal) → r ≡ Err e → places-after ≡ places-before
+  pub records_kept : (e : Refusal) → r ≡ Err e → places_after ≡ places_before
   pub skyline_kept : (e : Refusal) → r ≡ Err e → after ≡ before
   pub walk_kept : r ≡ Err MemoryTooShort → walk_after ≡ walk_before

@@ -12,15 +12,15 @@ use Rattle.packer.specs.Gives.{PackGives}
 
 -- a plan with a present block, packed with no walk memory, is refused with 18, and all that was lent is as it was
 pub record RefusedWithoutWalk {S : Type 0} (meaning : S → Sky) (p : Plan) (before after : S) (spots : List Spot)
-    (places-before places-after : List Placement) (r : Result Extent Refusal) : Type 0 where
+    (places_before places_after : List Placement) (r : Result Extent Refusal) : Type 0 where
   pub answer : r ≡ Err MemoryTooShort
   pub skyline : after ≡ before
   pub walk : spots ≡ []
-  pub places : places-after ≡ places-before
+  pub places : places_after ≡ places_before
 
 -- so it is for every plan
 abbrev pub PackTells : {S : Type 0} → (S → Sky) → Type 0
 PackTells {S} meaning =
-    (p : Plan) (before after : S) (spots : List Spot) (places-before places-after : List Placement)
-    (r : Result Extent Refusal) → 0 < present_count p → PackGives meaning p before after [] spots places-before places-after r
-    → RefusedWithoutWalk meaning p before after spots places-before places-after r
+    (p : Plan) (before after : S) (spots : List Spot) (places_before places_after : List Placement)
+    (r : Result Extent Refusal) → 0 < present_count p → PackGives meaning p before after [] spots places_before places_after r
+    → RefusedWithoutWalk meaning p before after spots places_before places_after r

@@ -1,6 +1,6 @@
 // Placing the blocks of a plan on a skyline, one after the other.
 ghost use Rattle.std.specs.Prelude.{◌≡◌, ℕ, ◌+◌, ◌<◌, ◌≤◌, max, [], length};
-ghost use Rattle.rules.specs.Packing.{packed, height as height-of};
+ghost use Rattle.rules.specs.Packing.{packed, height as height_of};
 ghost use Rattle.rules.specs.Skylines.{Within, Largest, Fresh};
 ghost use Rattle.promises.specs.Packs.{Under, with_placements};
 ghost use Rattle.plan.specs.Sound.{plan_of};
@@ -75,7 +75,7 @@ fn fill<S: Skyline>(
     requires enough { Enough (plan_of blocks.now root) (S.Skyline.meaning skyline.old) (length walk.old) (length places.old) }
     requires clear { Fresh (S.Skyline.meaning skyline.old) (S.Skyline.meaning skyline.old).columns (S.Skyline.meaning skyline.old).raises }
     requires blank { places.old ≡ recorded [] (length blocks.now) places.old }
-    ensures height { result ≡ height-of (packed (plan_of blocks.now root)) }
+    ensures height { result ≡ height_of (packed (plan_of blocks.now root)) }
     ensures places { places.new ≡ recorded (packed (plan_of blocks.now root)) (length blocks.now) places.old }
     ensures skyline { Under (plan_of blocks.now root) (S.Skyline.meaning skyline.old) (S.Skyline.meaning skyline.new) }
 {
@@ -102,7 +102,7 @@ pub(crate) fn place_all<S: Skyline>(
 ) -> u32
     requires plan { StandsFor blocks.now root (plan_of blocks.now root) }
     requires enough { Enough (plan_of blocks.now root) (S.Skyline.meaning skyline.old) (length walk.old) (length places.old) }
-    ensures height { result ≡ height-of (packed (plan_of blocks.now root)) }
+    ensures height { result ≡ height_of (packed (plan_of blocks.now root)) }
     ensures places { places.new ≡ with_placements (plan_of blocks.now root) places.old }
     ensures skyline { Under (plan_of blocks.now root) (S.Skyline.meaning skyline.old) (S.Skyline.meaning skyline.new) }
 {

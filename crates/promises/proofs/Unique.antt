@@ -25,9 +25,9 @@ rests_below : (t : Tree) (rs ss : List Placement) (j y z : ℕ) → Rests t rs j
     → ((i : ℕ) → Before i j (blocks t) → at rs i ≡ at ss i) → (at rs j).x ≡ (at ss j).x → (at rs j).width ≡ (at ss j).width → y ≤ z
 rests_below t rs ss j y z a b alike x w = elim a.reached [
   | inl e ↦ omega arith
-  | inr (i, before, (c, on-i, on-j), top) ↦
+  | inr (i, before, (c, on_i, on_j), top) ↦
       let same = alike i before in
-      let over = b.bounds i before (c, subst (λ (r : Placement). Spans r c) same on-i, (omega (arith, on-j.0), omega (arith, on-j.0, on-j.1))) in
+      let over = b.bounds i before (c, subst (λ (r : Placement). Spans r c) same on_i, (omega (arith, on_j.0), omega (arith, on_j.0, on_j.1))) in
       omega (arith, over, ap top_of same, top)
 ]
 

@@ -3,7 +3,7 @@ use Rattle.std.specs.Prelude.{◌≡◌, ℕ, ◌+◌, ◌≤◌, ◌⊎◌, Lis
 use Rattle.rules.specs.declared.placements.Placement.{Placement}
 use Rattle.rules.specs.declared.edits.Side.TheVariants.{Left, Right}
 use Rattle.rules.specs.Trees.{Tree, Among, count, blocks}
-use Rattle.rules.specs.Packing.{packed, reach as reach_of, height as height-of}
+use Rattle.rules.specs.Packing.{packed, reach as reach_of, height as height_of}
 use Rattle.rules.specs.Plans.{Plan, block_count, size_at}
 use Rattle.geometry.specs.Relations.{Root, Child}
 use Rattle.promises.specs.Packs.{nowhere, placements}
@@ -43,6 +43,6 @@ pub record Packing (p : Plan) (width height : ℕ) (rs : List Placement) : Type 
 
 -- Exactly one set of records, width and height meets it: the one that packing gives.
 pub record PackingIsOne (p : Plan) : Type 0 where
-  pub given : Packing p (reach_of (packed p)) (height-of (packed p)) (placements p)
+  pub given : Packing p (reach_of (packed p)) (height_of (packed p)) (placements p)
   pub only : (width height : ℕ) (rs : List Placement) → Packing p width height rs
-      → (rs ≡ placements p) × (width ≡ reach_of (packed p)) × (height ≡ height-of (packed p))
+      → (rs ≡ placements p) × (width ≡ reach_of (packed p)) × (height ≡ height_of (packed p))

@@ -60,5 +60,5 @@ module _ (text : List ℕ) (l : Line) (n : Word) (q : Corners) (stands : Stands 
         ap (λ w. Ok (block_in l w s)) (sym (name_there s))
 
     pub entry_read : length blocks < 512 → (o : Option Size) (e : Entry) → Some s ≡ o → e ≡ entry_of (block_in l n s) → EntryRead text (sized_block blocks l n o) (Ok e)
-    entry_read h o e is-size is-entry =
-        subst (λ x. EntryRead text (sized_block blocks l n o) (Ok x)) (sym is-entry) (ap (sized_block blocks l n) (sym is-size) ∙ one_more_block h, name_marked s)
+    entry_read h o e is_size is_entry =
+        subst (λ x. EntryRead text (sized_block blocks l n o) (Ok x)) (sym is_entry) (ap (sized_block blocks l n) (sym is_size) ∙ one_more_block h, name_marked s)

@@ -8,7 +8,7 @@ use Rattle.steps.proofs.Edges.{none_ordered, one_more, append_ordered, edge, edg
 use Rattle.steps.proofs.Heights.{height_here, height_next, height_front, height_rest}
 
 module _ (e first last : ℕ) (xs : List Run) (raised : Run) (ordered : in_order 0 xs e ≡ true) (some : raised.start < raised.end)
-    (left-holds : Holds xs first raised.start) (right-holds : Holds xs last (raised.end - 1)) where
+    (left_holds : Holds xs first raised.start) (right_holds : Holds xs last (raised.end - 1)) where
   abbrev left : Run
   left = run_at xs first
 
@@ -26,25 +26,25 @@ module _ (e first last : ℕ) (xs : List Run) (raised : Run) (ordered : in_order
 
   -- the four parts of the new runs beside the raised one
   front_ordered : in_order 0 front left.start ≡ true
-  front_ordered = ap (in_order 0 front) (edge_start 0 e first xs ordered left-holds.within) ∙ (cut 0 e first xs ordered).0
+  front_ordered = ap (in_order 0 front) (edge_start 0 e first xs ordered left_holds.within) ∙ (cut 0 e first xs ordered).0
 
   before_ordered : in_order left.start (rest_before left raised) raised.start ≡ true
   before_ordered =
       cond_both (ltb left.start raised.start) _ _ (λ zs. in_order left.start zs raised.start ≡ true)
       (λ t. one_more _ _ _ [] refl (ltb-true _ _ t) (none_ordered _))
-      (λ t. let same : left.start ≡ raised.start = omega (arith, ltb-false _ _ t, left-holds.from) in
+      (λ t. let same : left.start ≡ raised.start = omega (arith, ltb-false _ _ t, left_holds.from) in
       ap (in_order left.start []) (sym same) ∙ none_ordered left.start)
 
   behind_ordered : in_order raised.end (rest_behind right raised) right.end ≡ true
   behind_ordered =
       cond_both (ltb raised.end right.end) _ _ (λ zs. in_order raised.end zs right.end ≡ true)
       (λ t. one_more _ _ _ [] refl (ltb-true _ _ t) (none_ordered _))
-      (λ t. let same : raised.end ≡ right.end = omega (arith, ltb-false _ _ t, right-holds.to) in
+      (λ t. let same : raised.end ≡ right.end = omega (arith, ltb-false _ _ t, right_holds.to) in
       ap (in_order raised.end []) (sym same) ∙ none_ordered raised.end)
 
   back_ordered : in_order right.end back e ≡ true
   back_ordered =
-      let end : right.end ≡ edge 0 xs (last + 1) = rw (add-one last) (edge_end 0 last xs right-holds.within) in
+      let end : right.end ≡ edge 0 xs (last + 1) = rw (add-one last) (edge_end 0 last xs right_holds.within) in
       ap (λ n. in_order n back e) end ∙ (cut 0 e (last + 1) xs ordered).1
 
   parts : raised_runs ≡ front ++ (rest_before left raised ++ (raised ∷ (rest_behind right raised ++ back)))
@@ -60,13 +60,13 @@ module _ (e first last : ℕ) (xs : List Run) (raised : Run) (ordered : in_order
   -- the old runs, cut at the one that holds the first column, and at the one that holds the last
   from_left : (c : ℕ) → height_at xs c ≡ height_at (front ++ (left ∷ drop (first + 1) xs)) c
   from_left c =
-      ap (λ zs. height_at zs c) (sym (take-append-drop first xs) ∙ ap (λ zs. front ++ zs) (drop_more xs first _ left-holds.within))
+      ap (λ zs. height_at zs c) (sym (take-append-drop first xs) ∙ ap (λ zs. front ++ zs) (drop_more xs first _ left_holds.within))
 
   from_right : (c : ℕ) → raised.end ≤ c → height_at xs c ≡ height_at (right ∷ back) c
   from_right c l =
-      let start = edge_start 0 e last xs ordered right-holds.within in
-      ap (λ zs. height_at zs c) (sym (take-append-drop last xs) ∙ ap (λ zs. take last xs ++ zs) (drop_more xs last _ right-holds.within))
-      ∙ height_rest 0 _ c (take last xs) (right ∷ back) (cut 0 e last xs ordered).0 (omega (arith, right-holds.from))
+      let start = edge_start 0 e last xs ordered right_holds.within in
+      ap (λ zs. height_at zs c) (sym (take-append-drop last xs) ∙ ap (λ zs. take last xs ++ zs) (drop_more xs last _ right_holds.within))
+      ∙ height_rest 0 _ c (take last xs) (right ∷ back) (cut 0 e last xs ordered).0 (omega (arith, right_holds.from))
 
   pub height_before : (c : ℕ) → c < raised.start → height_at raised_runs c ≡ height_at xs c
   height_before c l = ap (λ zs. height_at zs c) parts ∙ elim (cases_lt c left.start) [
@@ -78,13 +78,13 @@ module _ (e first last : ℕ) (xs : List Run) (raised : Run) (ordered : in_order
         height_rest 0 _ c front _ front_ordered h
         ∙ ap (λ zs. height_at (zs ++ (raised ∷ (rest_behind right raised ++ back))) c) kept
         ∙ height_here _ _ c l
-        ∙ sym (from_left c ∙ height_rest 0 _ c front _ front_ordered h ∙ height_here left _ c (omega (arith, left-holds.to)))
+        ∙ sym (from_left c ∙ height_rest 0 _ c front _ front_ordered h ∙ height_here left _ c (omega (arith, left_holds.to)))
   ]
 
   -- from the raised run on
   from_raised : (c : ℕ) → raised.start ≤ c → height_at raised_runs c ≡ height_at (raised ∷ (rest_behind right raised ++ back)) c
   from_raised c l =
-      ap (λ zs. height_at zs c) parts ∙ height_rest 0 _ c front _ front_ordered (omega (arith, left-holds.from))
+      ap (λ zs. height_at zs c) parts ∙ height_rest 0 _ c front _ front_ordered (omega (arith, left_holds.from))
       ∙ height_rest _ _ c (rest_before left raised) _ before_ordered l
 
   pub height_inside : (c : ℕ) → raised.start ≤ c → c < raised.end → height_at raised_runs c ≡ raised.top

@@ -23,10 +23,10 @@ module _ (text : List ℕ) (es : List Entry) (ps : List Placement) where
   unfolding pl_text
   length_pl_text = length-append header (lines_of text es ps)
 
-  module _ (i : ℕ) (e : Entry) (p : Placement) (in-entries : i < length es) (in-places : i < length ps) where
+  module _ (i : ℕ) (e : Entry) (p : Placement) (in_entries : i < length es) (in_places : i < length ps) where
     lines_more : lines_of text (drop i es) (drop i ps) ≡ line_of text (get_or es i e) (get_or ps i p) ++ lines_of text (drop (i + 1) es) (drop (i + 1) ps)
     unfolding lines_of
-    lines_more = λ j. lines_of text (drop_more es i e in-entries j) (drop_more ps i p in-places j)
+    lines_more = λ j. lines_of text (drop_more es i e in_entries j) (drop_more ps i p in_places j)
 
     length_more : length (lines_of text (drop i es) (drop i ps)) ≡ length (line_of text (get_or es i e) (get_or ps i p)) + length (lines_of text (drop (i + 1) es) (drop (i + 1) ps))
     length_more = ap length lines_more ∙ length-append (line_of text (get_or es i e) (get_or ps i p)) _

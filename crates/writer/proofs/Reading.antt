@@ -29,7 +29,7 @@ lines_cut (b ∷ bs) rest h = cond-false (eqb b 10) _ _ (ne_eqb b 10 (λ e. omeg
 abbrev body : List ℕ → ℕ → ℕ → List ℕ
 body name x y = name ++ (32 ∷ (decimal x ++ (32 ∷ decimal y)))
 
-module _ (name : List ℕ) (x y : ℕ) (named : is_name name ≡ true) (small-x : x < 1000000000) (small-y : y < 1000000000) where
+module _ (name : List ℕ) (x y : ℕ) (named : is_name name ≡ true) (small_x : x < 1000000000) (small_y : y < 1000000000) where
   solid : AtLeast 48 name
   solid = solid_name name (and_parts (leb (length name) 32) _ (and_parts (leb 1 (length name)) _ named).1).1
 
@@ -51,7 +51,7 @@ module _ (name : List ℕ) (x y : ℕ) (named : is_name name ≡ true) (small-x 
   tells : told_by (words (body name x y)) ≡ Some (record { name = name; x = x; y = y })
   tells =
       ap told_by three_words ∙ cond-true (is_name name) _ _ named ∙
-      (λ j. told_at name (decimal_read_back x small-x j) (decimal_read_back y small-y j))
+      (λ j. told_at name (decimal_read_back x small_x j) (decimal_read_back y small_y j))
 
   -- one line more in front
   one_line : (rest : List ℕ) (ts : List Told) → told_by_lines (lines rest) ≡ Some ts → told_by_lines (lines (line name x y ++ rest)) ≡ Some (record { name = name; x = x; y = y } ∷ ts)
