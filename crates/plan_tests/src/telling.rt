@@ -71,11 +71,11 @@ pub fn check_tree<P: Telling>(rt: &impl Abort, plan: &P, tree: &[Place]) -> Resu
     check_unknown(rt, plan, block)
 }
 
-fn check_report(rt: &impl Abort, told: Report, expected: Report) -> Result<(), Fail> {
-    assert_eq!(rt; told.size, expected.size);
-    assert_eq!(rt; told.children, expected.children);
-    assert_eq!(rt; told.letter, expected.letter);
-    assert_eq!(rt; told.kept, expected.kept);
+fn check_report(rt: &impl Abort, block: u16, told: Report, expected: Report) -> Result<(), Fail> {
+    assert_eq!(rt; told.size, expected.size, "block {block}");
+    assert_eq!(rt; told.children, expected.children, "block {block}");
+    assert_eq!(rt; told.letter, expected.letter, "block {block}");
+    assert_eq!(rt; told.kept, expected.kept, "block {block}");
     Ok(())
 }
 
@@ -87,7 +87,7 @@ pub fn check_reports<P: Telling>(
 ) -> Result<(), Fail> {
     let mut block = 0u16;
     for report in reports.iter() {
-        check_report(rt, plan.tell(block)?, *report)?;
+        check_report(rt, block, plan.tell(block)?, *report)?;
         block = block.saturating_add(1);
     }
     check_unknown(rt, plan, block)

@@ -6,7 +6,7 @@ use Rattle.rules.specs.Skylines.{Sky, Cleared, Highest, Raise}
 use Rattle.skyline.specs.declared.worked.Answers.{Answers}
 
 -- The calls one after the other, on every skyline, from s over the cleared one and the one raised once to t: each answers what such
--- a call answers, and no other call is made.
+-- a call answers, and leaves what it leaves.
 pub record WorkedThrough (s cleared raised t : Sky) (first : Result (Unit {0}) Refusal) (r : Answers) : Type 0 where
   pub clears : Cleared s cleared
   pub raises : Raise cleared raised 2 4 5 first

@@ -7,8 +7,8 @@ use crate::runs::Run;
 mod ops;
 mod search;
 
-// Each raise left has room for two more runs. near is the place of the run behind the one raised last, where the next span often
-// starts: a guess, tested where it is used.
+// Each raise left has room for two more runs. near is the place that the last raise left for the run behind it, where the next span
+// often starts: a guess, tested where it is used.
 #[derive(Drop)]
 pub struct Steps<'a> {
     runs: &'a mut [Run],
