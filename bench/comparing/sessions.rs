@@ -51,8 +51,6 @@ const ODD_LINES: &[&str] = &[
     "pack 512 100001",
     "pack 1000001 512",
     "pack 512 512",
-    "again 512 512",
-    "again 3 3",
     "test",
     "begin move 0 1 up",
     "test in 1 0 left",
@@ -78,7 +76,6 @@ fn script(seed: u64) -> Vec<u8> {
         }
         match call {
             Call::Letter(byte) => text.extend_from_slice(&[b"letter ", &[byte][..]].concat()),
-            Call::Pack { walk, places } if numbers.percent(30) => text.extend(format!("again {walk} {places}").bytes()),
             _ => text.extend(call.to_string().bytes()),
         }
         text.extend_from_slice(if numbers.percent(odd) { b"\r\n" } else { b"\n" });

@@ -33,7 +33,7 @@ enum Line {
     Clear,
     Highest(u32, u32),
     Raise(u32, u32, u32),
-    /// A packing, by `pack` or by `again`: the calls so far lead from a new plan to the plan in hand.
+    /// A packing of the plan in hand.
     Pack {
         walk: u32,
         places: u32,
@@ -99,7 +99,7 @@ fn line(words: &[&[u8]]) -> Option<Line> {
         [b"clear"] => Line::Clear,
         [b"highest", a, b] => Line::Highest(number(a)?, number(b)?),
         [b"raise", a, b, h] => Line::Raise(number(a)?, number(b)?, number(h)?),
-        [b"pack" | b"again", walk, places] => {
+        [b"pack", walk, places] => {
             Line::Pack { walk: at_most(MOST_WALK, walk)?, places: at_most(MOST_RECORDS, places)? }
         }
         _ => return None,

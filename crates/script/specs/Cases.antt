@@ -2,7 +2,7 @@
 use Rattle.std.specs.Prelude.{◌≡◌, [], codes}
 use Rattle.rules.specs.declared.edits.Edit.TheVariants.{Turn, Swap, TakeOut, PutIn, Move}
 use Rattle.rules.specs.declared.edits.Side.TheVariants.{Left, Right}
-use Rattle.script.specs.declared.line.Line.TheVariants.{Skipped, Block, Size, Letter, Pair, Load, Test, Begin, Keep, Undo, Report, Pack, Again, Make, Clear, Highest, Raise, NotUnderstood}
+use Rattle.script.specs.declared.line.Line.TheVariants.{Skipped, Block, Size, Letter, Pair, Load, Test, Begin, Keep, Undo, Report, Pack, Make, Clear, Highest, Raise, NotUnderstood}
 use Rattle.script.specs.declared.line.Kind.TheVariants.{Columns, Steps, Placed}
 use Rattle.script.specs.Grammar.{meant}
 use Rattle.words.specs.Lines.{first_line, behind_line}
@@ -31,8 +31,6 @@ pub record Readings : Type 0 where
   pub highest_said : meant (codes "highest 0 3") ≡ Highest 0 3
   pub raise_said : meant (codes "raise 2 4 5") ≡ Raise 2 4 5
   pub pack_said : meant (codes "pack 5 100000") ≡ Pack 5 100000
-  pub again_said : meant (codes "again 0 7") ≡ Again 0 7
-  pub too_many_places : meant (codes "again 5 100001") ≡ NotUnderstood
   pub too_many_columns : meant (codes "skyline columns 1000001") ≡ NotUnderstood
   pub too_many_records : meant (codes "skyline steps 9 100001") ≡ NotUnderstood
   pub no_such_kind : meant (codes "skyline ledges 9") ≡ NotUnderstood

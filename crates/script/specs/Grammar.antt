@@ -4,7 +4,7 @@ use Rattle.std.specs.Str.{bytes_eq}
 use Rattle.rules.specs.declared.edits.Edit.{Edit}
 use Rattle.rules.specs.declared.edits.Edit.TheVariants.{Turn, Swap, TakeOut, PutIn, Move}
 use Rattle.script.specs.declared.line.Line.{Line}
-use Rattle.script.specs.declared.line.Line.TheVariants.{Skipped, Block, Size, Letter, Pair, Load, Test, Begin, Keep, Undo, Report, Pack, Again, Make, Clear, Highest, Raise, NotUnderstood}
+use Rattle.script.specs.declared.line.Line.TheVariants.{Skipped, Block, Size, Letter, Pair, Load, Test, Begin, Keep, Undo, Report, Pack, Make, Clear, Highest, Raise, NotUnderstood}
 use Rattle.script.specs.declared.line.Kind.{Kind}
 use Rattle.script.specs.declared.line.Kind.TheVariants.{Columns, Steps, Placed}
 use Rattle.words.specs.Words.{Word, words, byte_of}
@@ -104,10 +104,6 @@ raise_line args = made (λ p. Raise p.0 p.1 p.2) (three_numbers args)
 abbrev pub pack_line : List Word → Option Line
 pack_line args = made (λ p. Pack p.0 p.1) (two_up_to 100000 args)
 
--- again WALK PLACES, each at most 100,000
-abbrev pub again_line : List Word → Option Line
-again_line args = made (λ p. Again p.0 p.1) (two_up_to 100000 args)
-
 -- a call on the skyline; clear stands alone
 abbrev pub skyline_line : Word → List Word → Option Line
 skyline_line name args =
@@ -115,8 +111,7 @@ skyline_line name args =
     (cond (bytes_eq name (codes "clear")) (end Clear args)
     (cond (bytes_eq name (codes "highest")) (highest_line args)
     (cond (bytes_eq name (codes "raise")) (raise_line args)
-    (cond (bytes_eq name (codes "pack")) (pack_line args)
-    (cond (bytes_eq name (codes "again")) (again_line args) None)))))
+    (cond (bytes_eq name (codes "pack")) (pack_line args) None))))
 
 -- the first, if it says something, else the second
 abbrev pub or_else : Option Line → Option Line → Option Line

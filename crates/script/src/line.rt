@@ -28,8 +28,6 @@ pub enum Line {
     Report(u16),
     // the number of walk records, and of placement records
     Pack(u32, u32),
-    // the calls so far from a new plan on, and a packing with so many walk records and placement records
-    Again(u32, u32),
     // a new skyline
     Make(Kind),
     Clear,

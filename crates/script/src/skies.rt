@@ -1,6 +1,6 @@
 // The calls on a skyline.
 ghost use Rattle.std.specs.Prelude.{◌≡◌};
-ghost use Rattle.script.specs.Grammar.{kind_named, make_line, highest_line, raise_line, pack_line, again_line, skyline_line};
+ghost use Rattle.script.specs.Grammar.{kind_named, make_line, highest_line, raise_line, pack_line, skyline_line};
 ghost use Rattle.words.specs.Words.{words};
 
 use crate::line::{Kind, Line};
@@ -77,15 +77,6 @@ fn pack_line(args: &[u8]) -> Option<Line>
     }
 }
 
-fn again_line(args: &[u8]) -> Option<Line>
-    ensures { result ≡ again_line (words args.now) }
-{
-    match two_up_to(args, MOST_RECORDS) {
-        Some((walk, places)) => Some(Line::Again(walk, places)),
-        None => None,
-    }
-}
-
 // A call on the skyline, by its name.
 pub(crate) fn skyline_line(name: &[u8], args: &[u8]) -> Option<Line>
     ensures { result ≡ skyline_line name.now (words args.now) }
@@ -100,8 +91,6 @@ pub(crate) fn skyline_line(name: &[u8], args: &[u8]) -> Option<Line>
         raise_line(args)
     } else if is(name, b"pack") {
         pack_line(args)
-    } else if is(name, b"again") {
-        again_line(args)
     } else {
         None
     }

@@ -26,14 +26,6 @@ impl Lists {
         Ok(())
     }
 
-    // Puts other lists behind these.
-    pub fn append(&mut self, other: &Lists) -> Result<(), AllocError> {
-        self.sizes.extend_from_slice(&other.sizes)?;
-        self.letters.extend_from_slice(&other.letters)?;
-        self.children.extend_from_slice(&other.children)?;
-        Ok(())
-    }
-
     pub fn clear(&mut self) {
         self.sizes.clear();
         self.letters.clear();

@@ -4,18 +4,15 @@ ghost use Rattle.std.specs.Prelude.{◌≡◌, ◌<◌, true, length, is_some, I
 
 mod answers;
 mod desk;
-mod history;
 mod lists;
 mod packs;
 mod skies;
 mod texts;
 
-use answers::Answer;
 use columns::Columns;
 use desk::Desk;
-use history::History;
 use lists::Lists;
-use packs::{again_lines, pack_lines};
+use packs::pack_lines;
 use placed::Placed;
 use placed::rectangles::Rectangle;
 use plan::Settled;
@@ -28,34 +25,13 @@ use steps::runs::Run;
 use steps::steps::Steps;
 use words::split::next_line;
 
-// The plan in hand and the calls that led to it, the lists gathered, the number of lines read, and the lines to come.
+// The plan in hand, the lists gathered, the number of lines read, and the lines to come.
 #[derive(Drop)]
 struct Work<'a> {
     desk: Desk,
-    history: History,
     lists: Lists,
     number: usize,
     rest: &'a [u8],
-}
-
-// A call on the plan in hand, noted if it was allowed: the desk after it.
-fn plan_call(
-    rt: &HostRuntime,
-    desk: Desk,
-    history: &mut History,
-    lists: &mut Lists,
-    line: Line,
-) -> io::Result<Desk> {
-    let (desk, answer) = desk.call(rt.alloc(), line, lists)?;
-    match answer {
-        Answer::NotAllowed => {}
-        _ => history.note(line, lists)?,
-    }
-    if let Line::Load(_, _) = line {
-        lists.clear();
-    }
-    rt.println(answer)?;
-    Ok(desk)
 }
 
 // Performs one line on the plan and the skyline in hand: the desk after it.
@@ -63,7 +39,6 @@ fn step<S: Skyline>(
     rt: &HostRuntime,
     skyline: &mut S,
     desk: Desk,
-    history: &mut History,
     lists: &mut Lists,
     number: usize,
     line: Line,
@@ -75,12 +50,19 @@ fn step<S: Skyline>(
         Line::Letter(letter) => lists.letters.push(letter)?,
         Line::Pair(children) => lists.children.push(children)?,
         Line::Pack(walk, places) => pack_lines(rt, skyline, &desk, walk, places)?,
-        Line::Again(walk, places) => again_lines(rt, skyline, &desk, history, walk, places)?,
         Line::NotUnderstood => println!(rt; "line {number}: not understood")?,
-        call => match skies::call(skyline, call) {
-            Some(answer) => rt.println(answer)?,
-            None => return plan_call(rt, desk, history, lists, call),
-        },
+        call => {
+            if let Some(answer) = skies::call(skyline, call) {
+                rt.println(answer)?;
+                return Ok(desk);
+            }
+            let (desk, answer) = desk.call(rt.alloc(), call, lists)?;
+            if let Line::Load(_, _) = call {
+                lists.clear();
+            }
+            rt.println(answer)?;
+            return Ok(desk);
+        }
     }
     Ok(desk)
 }
@@ -95,13 +77,11 @@ fn lines<'a, S: Skyline>(
 {
     let Work {
         desk,
-        history,
         lists,
         number,
         rest,
     } = work;
     let mut desk = desk;
-    let mut history = history;
     let mut lists = lists;
     let mut number = number;
     let mut rest = rest;
@@ -116,7 +96,6 @@ fn lines<'a, S: Skyline>(
             return Ok((
                 Work {
                     desk,
-                    history,
                     lists,
                     number,
                     rest,
@@ -124,12 +103,11 @@ fn lines<'a, S: Skyline>(
                 Some(kind),
             ));
         }
-        desk = step(rt, skyline, desk, &mut history, &mut lists, number, line)?;
+        desk = step(rt, skyline, desk, &mut lists, number, line)?;
     }
     Ok((
         Work {
             desk,
-            history,
             lists,
             number,
             rest,
@@ -175,7 +153,6 @@ fn over<'a>(rt: &HostRuntime, kind: Kind, work: Work<'a>) -> io::Result<(Work<'a
 fn run(rt: &HostRuntime, text: &[u8]) -> io::Result<()> {
     let mut work = Work {
         desk: Desk::Settled(Settled::new(rt.alloc())?),
-        history: History::new(rt.alloc()),
         lists: Lists::new(rt.alloc()),
         number: 0,
         rest: text,
