@@ -4,7 +4,7 @@
 usage: tools/respell.py [--dry]    at the top of the repository, once, right after the toolchain's port.py
 
 A name is the repository's own if it is declared in a file of specs/ or proofs/ (a definition, a lemma, a field, a constructor) or bound
-there by a let. Goals of a function, names behind `c.`, `w.`, `l.` and `goal.` in the files of a function's proof, comments and strings
+there (by a let, an import's `as`, or as a parameter). Goals of a function, names behind `c.`, `w.`, `l.` and `goal.` in the files of a function's proof, comments and strings
 stay as they are. The script stops where two names would fall together.
 """
 import os
@@ -13,7 +13,8 @@ import sys
 
 TOP = os.path.join(os.path.dirname(os.path.realpath(__file__)), "..")
 DECLARED = re.compile(r"(?m)^\s*(?:abbrev |unfoldable )?(?:pub )?(?:abbrev )?(?:record |data )?([A-Za-zμ][\w']*(?:-[\w']+)+) (?=\(|\{|:)")
-BOUND = re.compile(r"\blet ([A-Za-zμ][\w']*(?:-[\w']+)+) (?=:|=)")
+BOUND = re.compile(r"\b(?:let|as) ([A-Za-zμ][\w']*(?:-[\w']+)+)(?= :| =|[,}])")
+BINDERS = re.compile(r"[({]((?:[A-Za-zμ][\w'\-]* )+): ")
 PIECES = re.compile(r'(--[^\n]*|//[^\n]*|"(?:\\.|[^"\\])*")')
 OWN_PROOF = ("Answers.antt", "Invariants.antt", "Proof.antt", "Choices.antt")
 
@@ -43,7 +44,8 @@ def own_names(texts):
         if path.endswith(".antt"):
             code = outside(text)
             goals = set(re.findall(r"goal\.([\w'\-+]+)", code))
-            own |= {n for n in DECLARED.findall(code) + BOUND.findall(code) if n not in goals}
+            bound = [n for names in BINDERS.findall(code) for n in names.split() if "-" in n]
+            own |= {n for n in DECLARED.findall(code) + BOUND.findall(code) + bound if n not in goals}
     return own
 
 
