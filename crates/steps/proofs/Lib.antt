@@ -5,3 +5,4 @@ pub mod Heights
 pub mod Raising
 pub mod Flat
 pub mod Putting
+pub mod Searched

@@ -1,6 +1,6 @@
 // Which runs a span meets.
 ghost use Rattle.std.specs.Prelude.{◌-◌, ◌<◌, ◌≤◌, length};
-ghost use Rattle.steps.specs.Order.{run_at, Reaches, Holds, Over};
+ghost use Rattle.steps.specs.Order.{run_at, Reaches, Holds};
 ghost use Rattle.steps.specs.Meaning.{runs_of};
 
 use super::Steps;
@@ -51,17 +51,27 @@ fn last_before(runs: &[Run], first: usize, b: u32) -> usize
 }
 
 impl Steps<'_> {
-    // The places of the first and the last run that a span meets.
-    pub(super) fn runs_over(&self, a: u32, b: u32) -> (usize, usize)
-        requires nonempty { a < b }
-        requires within { b ≤ self.now.columns }
-        ensures { Over (runs_of self.now) result.0 result.1 a b }
+    // The place of the run that holds the column.
+    fn run_at(&self, column: u32) -> usize
+        requires { column < self.now.columns }
+        ensures { Holds (runs_of self.now) result column }
     {
         let used = self.used;
         let near = self.near;
-        let runs = &self.runs[0..used];
-        let first = place_near(runs, near, a);
-        let last = last_before(runs, first, b);
+        place_near(&self.runs[0..used], near, column)
+    }
+
+    // The places of the runs that hold the first and the last column of a span.
+    pub(super) fn runs_over(&self, a: u32, b: u32) -> (usize, usize)
+        requires nonempty { a < b }
+        requires within { b ≤ self.now.columns }
+        ensures forward { result.0 ≤ result.1 }
+        ensures first { Holds (runs_of self.now) result.0 a }
+        ensures last { Holds (runs_of self.now) result.1 (b - 1) }
+    {
+        let first = self.run_at(a);
+        let used = self.used;
+        let last = last_before(&self.runs[0..used], first, b);
         (first, last)
     }
 }

@@ -1,6 +1,6 @@
 use Rattle.std.proofs.Common.{◌+◌, ◌-◌, take, drop, ap, ◌∙◌, arith}
 use Rattle.skyline.specs.Spans.{highest_top}
-use Rattle.steps.specs.Order.{run_extent}
+use Rattle.steps.specs.Order.{run_extent, Over}
 use Rattle.steps.specs.Meaning.{runs_of, sky_of}
 use Rattle.steps.proofs.Heights.{part_heights, largest_by_columns}
 use Rattle.steps.proofs.Held.{runs_length, part_in_use}
@@ -9,7 +9,8 @@ use Rattle.steps.proofs.steps.Steps.meet.Goals as goal
 pub returns : goal.returns
 returns c =
     let s = c.args.self.now in
-    let over = c.runs_over-first.ensures in
+    let over : Over (runs_of s) c.runs_over-first.result.0 c.runs_over-first.result.1 c.args.a c.args.b
+    = record { forward = c.runs_over-first.ensures.forward; left = c.runs_over-first.ensures.first; right = c.runs_over-first.ensures.last } in
     let first = c.runs_over-first.result.0 in
     let last = c.runs_over-first.result.1 in
     let held = part_in_use s first (last + 1) (omega (arith, over.right.within, runs_length s)) in
