@@ -1,4 +1,4 @@
--- What is plotted of what a.blocks text says.
+-- What is plotted of what a .blocks text says.
 use Rattle.std.specs.Prelude.{ℕ, List, map, Ok, Err, Result}
 use Rattle.rules.specs.declared.blocks.Size.{Size}
 use Rattle.rules.specs.declared.placements.Placement.{Placement}

@@ -9,7 +9,7 @@ use Rattle.names.specs.declared.entries.Entry.{Entry}
 use Rattle.names.specs.Names.{is_name}
 use Rattle.names.specs.Entries.{marked}
 
--- a block as a.pl text tells it
+-- a block as a .pl text tells it
 pub record Told : Type 0 where
   pub name : List ℕ
   pub x : ℕ
@@ -51,7 +51,7 @@ told_under [] = None
 told_under (h ∷ []) = None
 told_under (h ∷ e ∷ ls) = cond (bytes_eq h (codes "UCLA pl 1.0") && bytes_eq e []) (told_by_lines ls) None
 
--- the blocks that a.pl text tells
+-- the blocks that a .pl text tells
 abbrev pub read_pl : List ℕ → Option (List Told)
 read_pl text = told_under (lines text)
 
