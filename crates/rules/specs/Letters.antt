@@ -1,5 +1,5 @@
 -- Boundary letters.
-use Rattle.std.specs.Prelude.{ℕ, Bool, true, false, cond, ◌&&◌, ◌||◌, List, [], ◌∷◌, Some, None, Option, ◌==◌}
+use Rattle.std.specs.Prelude.{ℕ, Bool, true, false, cond, ◌&&◌, ◌||◌, List, [], ◌∷◌, Some, None, codes, Option, ◌==◌}
 use Rattle.rules.specs.declared.blocks.Letter.{Letter}
 use Rattle.rules.specs.declared.blocks.Letter.TheVariants.{Free, Top, Bottom, Left, Right}
 use Rattle.rules.specs.Trees.{Tree, leftmost, rightmost, left_foot, right_foot, bottom_left, bottom_right, no_left_child, no_right_child}
@@ -9,6 +9,14 @@ abbrev pub letter_of : ℕ → Option Letter
 letter_of b =
     cond (b == 70) (Some Free)
     (cond (b == 84) (Some Top) (cond (b == 66) (Some Bottom) (cond (b == 76) (Some Left) (cond (b == 82) (Some Right) None))))
+
+-- a letter by its byte, as it is printed
+abbrev pub letter_name : Letter → List ℕ
+letter_name Free = codes "F"
+letter_name Top = codes "T"
+letter_name Bottom = codes "B"
+letter_name Left = codes "L"
+letter_name Right = codes "R"
 
 -- whether i stands in the list
 unfoldable pub among : ℕ → List ℕ → Bool

@@ -1,4 +1,5 @@
 pub mod Refusals
+pub mod Sides
 pub mod Trees
 pub mod Links
 pub mod Plans

@@ -44,21 +44,21 @@ impl Refusal {
         ensures { result ≡ place self.now }
     {
         match *self {
-            Refusal::TooManyBlocks(line) => line,
-            Refusal::SideOutOfRange(place) => place,
-            Refusal::UnknownLetter(block) => block as u32,
-            Refusal::WrongChild(block) => block as u32,
-            Refusal::ChildTwice(block) => block as u32,
-            Refusal::Unreached(block) => block as u32,
-            Refusal::NoSuchBlock(block) => block as u32,
-            Refusal::SameBlock(block) => block as u32,
-            Refusal::NoHeader(line) => line,
-            Refusal::WrongForm(line) => line,
-            Refusal::WrongVertices(line) => line,
-            Refusal::RepeatedName(line) => line,
-            Refusal::NoName(block) => block,
-            Refusal::Absent(block) => block as u32,
-            Refusal::Present(block) => block as u32,
+            Refusal::TooManyBlocks(place)
+            | Refusal::SideOutOfRange(place)
+            | Refusal::NoHeader(place)
+            | Refusal::WrongForm(place)
+            | Refusal::WrongVertices(place)
+            | Refusal::RepeatedName(place)
+            | Refusal::NoName(place) => place,
+            Refusal::UnknownLetter(block)
+            | Refusal::WrongChild(block)
+            | Refusal::ChildTwice(block)
+            | Refusal::Unreached(block)
+            | Refusal::NoSuchBlock(block)
+            | Refusal::SameBlock(block)
+            | Refusal::Absent(block)
+            | Refusal::Present(block) => u32::from(block),
             Refusal::LengthsDiffer
             | Refusal::WrongRoot
             | Refusal::WrongSpan
@@ -79,8 +79,6 @@ impl fmt::Display for Refusal {
     ghost output = { λ r. Some (refusal_text r) };
 
     fn fmt<W: fmt::Write>(&self, f: &mut fmt::Formatter<W>) -> fmt::Result {
-        let n = self.number();
-        let p = self.place();
-        write!(f, "refused {n} at {p}")
+        write!(f, "refused {} at {}", self.number(), self.place())
     }
 }
