@@ -13,18 +13,18 @@ use Rattle.table.proofs.Holding.{Sp, frame_at, in_tree_once, in_tree_within}
 
 module _ (bs es : List Block) (n i j : ℕ) (hi : i < n) (hj : j < n) where
   sides : (s : Side) → at es i ≡ below_by s (at bs j) (at bs i) → at es j ≡ above_by s i (at bs j)
-      → (a c : Tree) → Sp es n (at bs j).left a → Sp es n (at bs j).right c → Sp es n j (node j (left_under s i a) (right_under s i c))
+      → (a c : Tree) → Sp es n (at bs j).children.left a → Sp es n (at bs j).children.right c → Sp es n j (node j (left_under s i a) (right_under s i c))
   sides Left ei ej a c fa fc = (
     refl,
     hj,
-    (ap (λ b. b.left) ej, hi, subst (λ z. Sp es n z a) (sym (ap (λ b. b.left) ei)) fa, ap (λ b. b.right) ei),
-    subst (λ z. Sp es n z c) (sym (ap (λ b. b.right) ej)) fc,
+    (ap (λ b. b.children.left) ej, hi, subst (λ z. Sp es n z a) (sym (ap (λ b. b.children.left) ei)) fa, ap (λ b. b.children.right) ei),
+    subst (λ z. Sp es n z c) (sym (ap (λ b. b.children.right) ej)) fc,
   )
   sides Right ei ej a c fa fc = (
     refl,
     hj,
-    subst (λ z. Sp es n z a) (sym (ap (λ b. b.left) ej)) fa,
-    (ap (λ b. b.right) ej, hi, ap (λ b. b.left) ei, subst (λ z. Sp es n z c) (sym (ap (λ b. b.right) ei)) fc),
+    subst (λ z. Sp es n z a) (sym (ap (λ b. b.children.left) ej)) fa,
+    (ap (λ b. b.children.right) ej, hi, ap (λ b. b.children.left) ei, subst (λ z. Sp es n z c) (sym (ap (λ b. b.children.right) ei)) fc),
   )
 
   hanging : (s : Side) → at es i ≡ below_by s (at bs j) (at bs i) → at es j ≡ above_by s i (at bs j)
@@ -52,7 +52,7 @@ module _ (bs es : List Block) (n i j : ℕ) (hi : i < n) (hj : j < n) where
             let sa = hanging s ei ej o (lefts bs k) a (omega (arith, parts_le j k a c)) za w.2 in
             let sc = hanging s ei ej o (rights bs k) c (omega (arith, parts_le j k a c)) zc w.3 in
             subst (λ y. Sp es n x y) (sym (cond-false _ _ _ (ne_eqb k j d)))
-            (w.0, w.1, subst (λ y. Sp es n y (hang s i j a)) (sym (ap (λ b. b.left) e)) sa, subst (λ y. Sp es n y (hang s i j c)) (sym (ap (λ b. b.right) e)) sc)
+            (w.0, w.1, subst (λ y. Sp es n y (hang s i j a)) (sym (ap (λ b. b.children.left) e)) sa, subst (λ y. Sp es n y (hang s i j c)) (sym (ap (λ b. b.children.right) e)) sc)
       ]
 
 below_part : {X : Type 0} (f : Block → X) → ((l r : ℕ) (b : Block) → f (hung l r b) ≡ f b) → (s : Side) (c b : Block) → f (below_by s c b) ≡ f b
@@ -146,7 +146,7 @@ module _ (i : ℕ) (bs : List Block) where
       let here = get_or-set_same bs i (hung 65535 65535 (at bs i)) blank hi in
       record {
         few = omega arith;
-        spelt = (refl, omega arith, ap (λ b. b.left) here, ap (λ b. b.right) here);
+        spelt = (refl, omega arith, ap (λ b. b.children.left) here, ap (λ b. b.children.right) here);
         once = λ m. elim (cases_eq m i) [
           | inl q ↦
               let p : (at es m).present ≡ true = ap (λ y. (at es y).present) q ∙ ap (λ b. b.present) here in

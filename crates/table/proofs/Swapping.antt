@@ -30,8 +30,8 @@ module _ (i j : ℕ) (bs : List Block) where
   -- a part of the rows that does not hang on the links
   crossed_part : {X : Type 0} (f : Block → X) → ((l r : ℕ) (b : Block) → f (linked l r b) ≡ f b) → (m : ℕ) → f (at (crossed i j renamed) m) ≡ f (at bs m)
   crossed_part f s m =
-      let x = linked (at renamed j).left (at renamed j).right (at renamed i) in
-      let y = linked (at renamed i).left (at renamed i).right (at renamed j) in
+      let x = linked (at renamed j).children.left (at renamed j).children.right (at renamed i) in
+      let y = linked (at renamed i).children.left (at renamed i).children.right (at renamed j) in
       let first : (k : ℕ) → f (at (set renamed i x) k) ≡ f (at renamed k) = λ k. set_part f renamed i k x (s _ _ (at renamed i)) in
       set_part f (set renamed i x) j m y (s _ _ (at renamed j) ∙ sym (first j)) ∙ first m ∙ map_part f (relinked (exchange i j)) (λ b. s _ _ b) bs m
 
@@ -57,8 +57,8 @@ module _ (i j : ℕ) (bs : List Block) where
         → at (crossed i j renamed) k ≡ linked (exchange i j (lefts bs (exchange i j k))) (exchange i j (rights bs (exchange i j k))) (at bs k)
     at_crossed k h =
         let n = length-map bs (relinked (exchange i j)) in
-        let x = linked (at renamed j).left (at renamed j).right (at renamed i) in
-        let y = linked (at renamed i).left (at renamed i).right (at renamed j) in
+        let x = linked (at renamed j).children.left (at renamed j).children.right (at renamed i) in
+        let y = linked (at renamed i).children.left (at renamed i).children.right (at renamed j) in
         let il : i < length renamed = omega arith in
         let jl : j < length (set renamed i x) = omega (arith, length-set renamed i x) in
         let ei = at_renamed i hi in
@@ -85,7 +85,7 @@ module _ (i j : ℕ) (bs : List Block) where
         let l : exchange i j k < length bs = grind (arith, nat_tests) in
         let e = at_crossed (exchange i j k) l in
         let t = exchange_twice i j k in
-        (ap (λ b. b.left) e ∙ rw t, ap (λ b. b.right) e ∙ rw t)
+        (ap (λ b. b.children.left) e ∙ rw t, ap (λ b. b.children.right) e ∙ rw t)
 
     exchanged_present : (at bs i).present ≡ true → (at bs j).present ≡ true → (k : ℕ) → (at bs (exchange i j k)).present ≡ (at bs k).present
     exchanged_present pi pj k =

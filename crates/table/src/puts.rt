@@ -4,7 +4,7 @@ ghost use Rattle.rules.specs.Trees.{Tree, put_in};
 ghost use Rattle.table.specs.Tables.{Holds, Keeps, FitsIn, put, put_root, alone, under};
 
 use crate::blocks::Block;
-use rules::blocks::NONE;
+use rules::blocks::{Children, NONE};
 use rules::edits::Side;
 
 // Block i alone is in the tree.
@@ -13,8 +13,7 @@ fn put_alone(blocks: &mut [Block], i: u16)
     ensures { blocks.new ≡ alone i blocks.old }
 {
     let b = &mut blocks[i as usize];
-    b.left = NONE;
-    b.right = NONE;
+    b.children = Children::NONE;
     b.present = true;
 }
 
@@ -24,28 +23,14 @@ fn put_under(blocks: &mut [Block], i: u16, j: u16, side: Side)
     requires j_within { j < length blocks.old }
     ensures { blocks.new ≡ under i j side blocks.old }
 {
-    let b = blocks[i as usize];
-    let c = blocks[j as usize];
-    match side {
-        Side::Left => {
-            blocks[i as usize] = Block {
-                left: c.left,
-                right: NONE,
-                present: true,
-                ..b
-            };
-            blocks[j as usize] = Block { left: i, ..c };
-        }
-        Side::Right => {
-            blocks[i as usize] = Block {
-                left: NONE,
-                right: c.right,
-                present: true,
-                ..b
-            };
-            blocks[j as usize] = Block { right: i, ..c };
-        }
-    }
+    let mut above = blocks[j as usize];
+    let mut children = Children::NONE;
+    children.set(side, above.children.on(side));
+    above.children.set(side, i);
+    let below = &mut blocks[i as usize];
+    below.children = children;
+    below.present = true;
+    blocks[j as usize] = above;
 }
 
 // Puts i in under j on that side, or alone into an empty tree, and answers the tree's root.

@@ -21,13 +21,11 @@ pub fn swap_places(blocks: &mut [Block], root: u16, i: u16, j: u16) -> u16
     let a = blocks[i as usize];
     let b = blocks[j as usize];
     blocks[i as usize] = Block {
-        left: b.left,
-        right: b.right,
+        children: b.children,
         ..a
     };
     blocks[j as usize] = Block {
-        left: a.left,
-        right: a.right,
+        children: a.children,
         ..b
     };
     exchange.rename(root)

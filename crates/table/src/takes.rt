@@ -5,7 +5,7 @@ ghost use Rattle.table.specs.Tables.{Holds, Keeps, lowered, heir, joined, taken,
 
 use crate::blocks::Block;
 use crate::renames::{Redirect, Renaming, rename_links};
-use rules::blocks::NONE;
+use rules::blocks::{Children, NONE};
 
 // Hangs the subtree at `first` under `start` as its left child, and what stood there under the next block of the
 // rightmost branch from `start` on, and so on to that branch's end.
@@ -14,25 +14,24 @@ fn lower(blocks: &mut [Block], first: u16, start: u16)
 {
     let mut hung = first;
     let mut under = start;
-    for step in 0..blocks.len() {
+    for _ in 0..blocks.len() {
         if under as usize >= blocks.len() {
             return;
         }
-        let b = blocks[under as usize];
-        if b.right == NONE {
-            blocks[under as usize] = Block {
+        let Children { left, right } = blocks[under as usize].children;
+        if right == NONE {
+            blocks[under as usize].children = Children {
                 left: hung,
-                right: b.left,
-                ..b
+                right: left,
             };
             return;
         }
-        blocks[under as usize] = Block { left: hung, ..b };
-        if b.left == NONE {
+        blocks[under as usize].children.left = hung;
+        if left == NONE {
             return;
         }
-        hung = b.left;
-        under = b.right;
+        hung = left;
+        under = right;
     }
 }
 
@@ -61,13 +60,12 @@ pub fn take_out(blocks: &mut [Block], root: u16, i: u16) -> u16
     if i as usize >= blocks.len() {
         return root;
     }
-    let b = blocks[i as usize];
-    let t = join(blocks, b.left, b.right);
+    let Children { left, right } = blocks[i as usize].children;
+    let t = join(blocks, left, right);
     let redirect = Redirect(i, t);
     rename_links(blocks, &redirect);
     let b = &mut blocks[i as usize];
-    b.left = NONE;
-    b.right = NONE;
+    b.children = Children::NONE;
     b.present = false;
     redirect.rename(root)
 }

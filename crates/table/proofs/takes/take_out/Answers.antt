@@ -15,9 +15,9 @@ returns c =
     let i = c.args.i in
     let bs = c.args.blocks.now in
     let hi = c.if-i-blocks.false in
-    let led : c.rename_links.new.blocks ≡ map (relinked (point i (heir (at bs i).left (at bs i).right))) (joined (at bs i).left (at bs i).right bs)
+    let led : c.rename_links.new.blocks ≡ map (relinked (point i (heir (at bs i).children.left (at bs i).children.right))) (joined (at bs i).children.left (at bs i).children.right bs)
     = c.rename_links.ensures ∙ ap (λ t. map (relinked (point i t)) c.join-t.new.blocks) c.join-t.ensures.value
-    ∙ ap (map (relinked (point i (heir (at bs i).left (at bs i).right)))) c.join-t.ensures.after in
+    ∙ ap (map (relinked (point i (heir (at bs i).children.left (at bs i).children.right)))) c.join-t.ensures.after in
     let e = ap (λ cs. set cs i (cleared (at cs i))) led ∙ taken_is i bs hi in
     let f = c.rename.ensures ∙ ap (λ t. point i t c.args.root) c.join-t.ensures.value ∙ taken_root_is i bs hi c.args.root in
     let g = taken_gives i bs c.args.root _ _ e f in
