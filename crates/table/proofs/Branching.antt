@@ -1,5 +1,5 @@
 -- The branches by links are those of the tree.
-use Rattle.std.proofs.Common.{◌≡◌, ℕ, zero, suc, ◌<◌, ◌≤◌, Bool, true, false, ◌&&◌, ◌||◌, List, [], ◌∷◌, length, sym, refl, ap, ◌∙◌, arith}
+use Rattle.std.proofs.Common.{◌≡◌, ℕ, zero, suc, ◌<◌, ◌≤◌, Bool, ◌&&◌, List, [], ◌∷◌, length, refl, ap, ◌∙◌, arith}
 use Rattle.std.proofs.lemmas.Bool.{eq-eqb, ne_eqb, lt-ltb, le-ltb, cond-true, cond-false}
 use Rattle.rules.specs.declared.blocks.Letter.{Letter}
 use Rattle.rules.specs.declared.blocks.Letter.TheVariants.{Free, Top, Bottom, Left as LeftEdge, Right as RightEdge}
@@ -16,55 +16,14 @@ use Rattle.table.proofs.Holding.{Sp, at_most_once}
 
 -- the steps of a walk along a branch
 module _ (s : Side) (bs : List Block) where
-  pub branch_out : (f i : ℕ) → length bs ≤ i → branch s bs f i ≡ []
+  branch_out : (f i : ℕ) → length bs ≤ i → branch s bs f i ≡ []
   unfolding branch
   branch_out zero i h = refl
   branch_out (suc f) i h = cond-false _ _ _ (le-ltb i (length bs) h)
 
-  pub branch_none : (f i : ℕ) → f ≡ 0 → branch s bs f i ≡ []
-  unfolding branch
-  branch_none f i e = ap (λ g. branch s bs g i) e
-
-  pub branch_more : (f g i : ℕ) → f ≡ suc g → i < length bs → branch s bs f i ≡ i ∷ branch s bs g (child_on s (at bs i).children)
+  branch_more : (f g i : ℕ) → f ≡ suc g → i < length bs → branch s bs f i ≡ i ∷ branch s bs g (child_on s (at bs i).children)
   unfolding branch
   branch_more f g i e h = ap (λ g. branch s bs g i) e ∙ cond-true _ _ _ (lt-ltb i (length bs) h)
-
-  -- what a walk finds where the branch ends, and after one block more
-  pub last_nil : (k : ℕ) (is : List ℕ) → is ≡ [] → last_from k is ≡ k
-  unfolding last_from
-  last_nil k is e = ap (last_from k) e
-
-  pub last_more : (k f g i : ℕ) → f ≡ suc g → i < length bs → last_from k (branch s bs f i) ≡ last_from i (branch s bs g (child_on s (at bs i).children))
-  unfolding last_from
-  last_more k f g i e h = ap (last_from k) (branch_more f g i e h)
-
-  pub among_nil : (k : ℕ) (is : List ℕ) → is ≡ [] → among k is ≡ false
-  unfolding among
-  among_nil k is e = ap (among k) e
-
-  pub among_here : (k f g i : ℕ) → f ≡ suc g → i < length bs → i ≡ k → among k (branch s bs f i) ≡ true
-  unfolding among
-  among_here k f g i e h q = ap (among k) (branch_more f g i e h) ∙ ap (λ b. b || among k (branch s bs g (child_on s (at bs i).children))) (eq-eqb k i (sym q))
-
-  pub among_more : (k f g i : ℕ) → f ≡ suc g → i < length bs → (i ≡ k → ⊥) → among k (branch s bs f i) ≡ among k (branch s bs g (child_on s (at bs i).children))
-  unfolding among
-  among_more k f g i e h d = ap (among k) (branch_more f g i e h) ∙ ap (λ b. b || among k (branch s bs g (child_on s (at bs i).children))) (ne_eqb k i (λ q. d (sym q)))
-
-  module _ (o : Side) where
-    pub childless_nil : (is : List ℕ) → is ≡ [] → childless o bs is ≡ true
-    unfolding childless
-    childless_nil is e = ap (childless o bs) e
-
-    pub childless_not : (f g i : ℕ) → f ≡ suc g → i < length bs → (child_on o (at bs i).children ≡ 65535 → ⊥) → childless o bs (branch s bs f i) ≡ false
-    unfolding childless
-    childless_not f g i e h d =
-        ap (childless o bs) (branch_more f g i e h) ∙ ap (λ b. b && childless o bs (branch s bs g (child_on s (at bs i).children))) (ne_eqb (child_on o (at bs i).children) 65535 d)
-
-    pub childless_more : (f g i : ℕ) → f ≡ suc g → i < length bs → child_on o (at bs i).children ≡ 65535
-        → childless o bs (branch s bs f i) ≡ childless o bs (branch s bs g (child_on s (at bs i).children))
-    unfolding childless
-    childless_more f g i e h q =
-        ap (childless o bs) (branch_more f g i e h) ∙ ap (λ b. b && childless o bs (branch s bs g (child_on s (at bs i).children))) (eq-eqb (child_on o (at bs i).children) 65535 q)
 
 -- the branches of a tree that the links spell
 

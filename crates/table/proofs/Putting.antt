@@ -1,6 +1,6 @@
 -- A block put into the tree.
 use Rattle.std.proofs.Common.{◌≡◌, ℕ, ◌<◌, ◌≤◌, Bool, true, false, cond, eqb, List, length, set, sym, refl, ap, ◌∙◌, subst, inl, inr, arith}
-use Rattle.std.proofs.lemmas.Bool.{cases_eq, eq-eqb, ne_eqb, lt-ltb, le-ltb, cond-true, cond-false}
+use Rattle.std.proofs.lemmas.Bool.{cases_eq, eq-eqb, ne_eqb, lt-ltb, cond-true, cond-false}
 use Rattle.std.proofs.lemmas.List.{length-set, get_or-set_same, get_or-set_other}
 use Rattle.rules.specs.declared.edits.Side.{Side}
 use Rattle.rules.specs.declared.edits.Side.TheVariants.{Left, Right}
@@ -175,18 +175,15 @@ module _ (i j : ℕ) (s : Side) (root : ℕ) (bs : List Block) where
     first_true : {X : Type 0} (x y : X) → cond (within i bs) x y ≡ x
     first_true x y = cond-true _ _ _ (lt-ltb i (length bs) hi)
 
-    pub put_alone_is : root ≡ 65535 → (alone i bs ≡ put i j s root bs) × (i ≡ put_root i root bs)
+    put_alone_is : root ≡ 65535 → (alone i bs ≡ put i j s root bs) × (i ≡ put_root i root bs)
     put_alone_is e =
         (sym (first_true _ _ ∙ cond-true _ _ _ (eq-eqb root 65535 e)), sym (first_true _ _ ∙ cond-true _ _ _ (eq-eqb root 65535 e)))
 
-    pub put_root_stays : (root ≡ 65535 → ⊥) → root ≡ put_root i root bs
+    put_root_stays : (root ≡ 65535 → ⊥) → root ≡ put_root i root bs
     put_root_stays ne = sym (first_true _ _ ∙ cond-false _ _ _ (ne_eqb root 65535 ne))
 
-    pub put_under_is : (root ≡ 65535 → ⊥) → j < length bs → under i j s bs ≡ put i j s root bs
+    put_under_is : (root ≡ 65535 → ⊥) → j < length bs → under i j s bs ≡ put i j s root bs
     put_under_is ne hj = sym (first_true _ _ ∙ cond-false _ _ _ (ne_eqb root 65535 ne) ∙ cond-true _ _ _ (lt-ltb j (length bs) hj))
-
-    pub put_nowhere_is : (root ≡ 65535 → ⊥) → length bs ≤ j → bs ≡ put i j s root bs
-    put_nowhere_is ne hj = sym (first_true _ _ ∙ cond-false _ _ _ (ne_eqb root 65535 ne) ∙ cond-false _ _ _ (le-ltb j (length bs) hj))
 
   put_in_alone : (t : Tree) → t ≡ empty → put_in i j s t ≡ node i empty empty
   unfolding put_in
@@ -209,14 +206,12 @@ module _ (i j : ℕ) (s : Side) (root : ℕ) (bs : List Block) where
         (subst (λ x. Holds (put i j s root bs) x (hang s i j t)) (put_root_stays f.known ne) (subst (λ x. Holds x root (hang s i j t)) (put_under_is f.known ne hj) r))
   ]
 
-  -- where i is no row nothing changes
-  pub put_out : length bs ≤ i → (bs ≡ put i j s root bs) × (root ≡ put_root i root bs)
-  put_out h = (sym (cond-false _ _ _ (le-ltb i (length bs) h)), sym (cond-false _ _ _ (le-ltb i (length bs) h)))
+  -- what the table with i keeps
+  pub put_in_keeps : (cs : List Block) → cs ≡ put i j s root bs → Keeps bs cs
+  put_in_keeps cs e = subst (Keeps bs) (sym e) put_keeps
 
-  -- what the table with i keeps and holds
-  pub put_gives : (cs : List Block) (r : ℕ) → cs ≡ put i j s root bs → r ≡ put_root i root bs
-      → Keeps bs cs × ((t : Tree) → Holds bs root t → FitsIn i j bs t → Holds cs r (put_in i j s t))
-  put_gives cs r e f = (
-    subst (Keeps bs) (sym e) put_keeps,
-    λ t h w. subst (λ x. Holds x r (put_in i j s t)) (sym e) (subst (λ x. Holds (put i j s root bs) x (put_in i j s t)) (sym f) (put_holds t h w)),
-  )
+  -- and the tree that it holds
+  pub put_in_holds : (cs : List Block) (r : ℕ) → cs ≡ put i j s root bs → r ≡ put_root i root bs
+      → (t : Tree) → Holds bs root t → FitsIn i j bs t → Holds cs r (put_in i j s t)
+  put_in_holds cs r e f t h w =
+      subst (λ x. Holds x r (put_in i j s t)) (sym e) (subst (λ x. Holds (put i j s root bs) x (put_in i j s t)) (sym f) (put_holds t h w))

@@ -1,6 +1,6 @@
 -- Two blocks in each other's place.
-use Rattle.std.proofs.Common.{◌≡◌, ℕ, ◌<◌, ◌≤◌, Bool, true, false, cond, ◌≢◌, ◌⊎◌, List, map, length, set, sym, refl, ap, ◌∙◌, subst, inl, inr, arith}
-use Rattle.std.proofs.lemmas.Bool.{cases_eq, lt-ltb, le-ltb, and_from, and_left, and_right, cond-true, cond-false}
+use Rattle.std.proofs.Common.{◌≡◌, ℕ, ◌<◌, Bool, true, false, cond, ◌≢◌, List, map, length, set, sym, refl, ap, ◌∙◌, subst, inl, inr, arith}
+use Rattle.std.proofs.lemmas.Bool.{cases_eq, lt-ltb, and_from, cond-true}
 use Rattle.std.proofs.lemmas.Bool.Decides.{nat_tests}
 use Rattle.std.proofs.lemmas.List.{length-set, get_or-set_same, get_or-set_other, length-map, get_or-map}
 use Rattle.rules.specs.Trees.{Tree, exchange, swap}
@@ -113,10 +113,7 @@ module _ (i j : ℕ) (bs : List Block) where
     both_true : both_within i j bs ≡ true
     both_true = and_from _ _ (lt-ltb i (length bs) hi) (lt-ltb j (length bs) hj)
 
-    pub swapped_is : (cs : List Block) → cs ≡ renamed → crossed i j cs ≡ swapped i j bs
-    swapped_is cs e = ap (crossed i j) e ∙ sym (cond-true _ _ _ both_true)
-
-    pub swapped_root : (root : ℕ) → exchange i j root ≡ cond (both_within i j bs) (exchange i j root) root
+    swapped_root : (root : ℕ) → exchange i j root ≡ cond (both_within i j bs) (exchange i j root) root
     swapped_root root = sym (cond-true _ _ _ both_true)
 
   swapped_holds : (root : ℕ) (t : Tree) → Holds bs root t → has_both i j t
@@ -128,18 +125,12 @@ module _ (i j : ℕ) (bs : List Block) where
       subst (λ x. Holds x (cond (both_within i j bs) (exchange i j root) root) (swap i j t)) (sym (cond-true _ _ _ (both_true hi hj)))
       (subst (λ x. Holds (crossed i j renamed) x (swap i j t)) (swapped_root hi hj root) r)
 
-  not_both : (length bs ≤ i) ⊎ (length bs ≤ j) → both_within i j bs ≡ false
-  not_both (inl h) = and_left _ _ (le-ltb i (length bs) h)
-  not_both (inr h) = and_right _ _ (le-ltb j (length bs) h)
+  -- what the table after the swap keeps
+  pub swap_keeps : (cs : List Block) → cs ≡ swapped i j bs → Keeps bs cs
+  swap_keeps cs e = subst (Keeps bs) (sym e) swapped_keeps
 
-  -- where one of the two is no row nothing changes
-  pub swapped_out : (root : ℕ) → (length bs ≤ i) ⊎ (length bs ≤ j) → (bs ≡ swapped i j bs) × (root ≡ cond (both_within i j bs) (exchange i j root) root)
-  swapped_out root h = (sym (cond-false _ _ _ (not_both h)), sym (cond-false _ _ _ (not_both h)))
-
-  -- what the table after the swap keeps and holds
-  pub swapped_gives : (root : ℕ) (cs : List Block) (r : ℕ) → cs ≡ swapped i j bs → r ≡ cond (both_within i j bs) (exchange i j root) root
-      → Keeps bs cs × ((t : Tree) → Holds bs root t → has_both i j t → Holds cs r (swap i j t))
-  swapped_gives root cs r e f = (
-    subst (Keeps bs) (sym e) swapped_keeps,
-    λ t h b. subst (λ x. Holds x r (swap i j t)) (sym e) (subst (λ x. Holds (swapped i j bs) x (swap i j t)) (sym f) (swapped_holds root t h b)),
-  )
+  -- and the tree that it holds
+  pub swap_holds : (root : ℕ) (cs : List Block) (r : ℕ) → cs ≡ swapped i j bs → r ≡ cond (both_within i j bs) (exchange i j root) root
+      → (t : Tree) → Holds bs root t → has_both i j t → Holds cs r (swap i j t)
+  swap_holds root cs r e f t h b =
+      subst (λ x. Holds x r (swap i j t)) (sym e) (subst (λ x. Holds (swapped i j bs) x (swap i j t)) (sym f) (swapped_holds root t h b))

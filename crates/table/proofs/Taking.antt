@@ -1,6 +1,6 @@
 -- A block taken out of the tree.
 use Rattle.std.proofs.Common.{◌≡◌, ℕ, zero, suc, ◌+◌, ◌<◌, ◌≤◌, Bool, true, false, cond, ◌≢◌, ◌⊎◌, List, map, length, set, sym, refl, ap, ◌∙◌, subst, inl, inr, arith}
-use Rattle.std.proofs.lemmas.Bool.{cases_eq, cases_lt, eq-eqb, ne_eqb, lt-ltb, le-ltb, cond-true, cond-false}
+use Rattle.std.proofs.lemmas.Bool.{cases_eq, cases_lt, eq-eqb, ne_eqb, lt-ltb, cond-true, cond-false}
 use Rattle.std.proofs.lemmas.List.{length-set, get_or-set_same, get_or-set_other, length-map, get_or-map}
 use Rattle.rules.specs.Trees.{Tree, empty, node, count, size, join, take_out}
 use Rattle.rules.specs.Links.{Spells}
@@ -245,10 +245,10 @@ module _ (i : ℕ) (bs : List Block) where
       go false = record { long = refl; sizes = λ k. refl; letters = λ k. refl }
 
   module _ (hi : i < length bs) where
-    pub taken_is : taken_by i l r bs ≡ taken i bs
+    taken_is : taken_by i l r bs ≡ taken i bs
     taken_is = sym (cond-true _ _ _ (lt-ltb i (length bs) hi))
 
-    pub taken_root_is : (root : ℕ) → point i (heir l r) root ≡ taken_root i root bs
+    taken_root_is : (root : ℕ) → point i (heir l r) root ≡ taken_root i root bs
     taken_root_is root = sym (cond-true _ _ _ (lt-ltb i (length bs) hi))
 
     at_taken : (m : ℕ) → m < length bs → (m ≡ i → ⊥) → at (taken_by i l r bs) m ≡ relinked (point i (heir l r)) (at (joined l r bs) m)
@@ -296,14 +296,12 @@ module _ (i : ℕ) (bs : List Block) where
       subst (λ x. Holds x (taken_root i root bs) (take_out i t)) (taken_is hi)
       (subst (λ x. Holds (taken_by i l r bs) x (take_out i t)) (taken_root_is hi root) (by_holds hi root t h p))
 
-  -- where i is no row nothing changes
-  pub taken_out : (root : ℕ) → length bs ≤ i → (bs ≡ taken i bs) × (root ≡ taken_root i root bs)
-  taken_out root h = (sym (cond-false _ _ _ (le-ltb i (length bs) h)), sym (cond-false _ _ _ (le-ltb i (length bs) h)))
+  -- what the table without i keeps
+  pub take_keeps : (cs : List Block) → cs ≡ taken i bs → Keeps bs cs
+  take_keeps cs e = subst (Keeps bs) (sym e) taken_keeps
 
-  -- what the table without i keeps and holds
-  pub taken_gives : (root : ℕ) (cs : List Block) (k : ℕ) → cs ≡ taken i bs → k ≡ taken_root i root bs
-      → Keeps bs cs × ((t : Tree) → Holds bs root t → 0 < count i t → Holds cs k (take_out i t))
-  taken_gives root cs k e f = (
-    subst (Keeps bs) (sym e) taken_keeps,
-    λ t h p. subst (λ x. Holds x k (take_out i t)) (sym e) (subst (λ x. Holds (taken i bs) x (take_out i t)) (sym f) (taken_holds root t h p)),
-  )
+  -- and the tree that it holds
+  pub take_holds : (root : ℕ) (cs : List Block) (k : ℕ) → cs ≡ taken i bs → k ≡ taken_root i root bs
+      → (t : Tree) → Holds bs root t → 0 < count i t → Holds cs k (take_out i t)
+  take_holds root cs k e f t h p =
+      subst (λ x. Holds x k (take_out i t)) (sym e) (subst (λ x. Holds (taken i bs) x (take_out i t)) (sym f) (taken_holds root t h p))

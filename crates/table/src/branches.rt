@@ -9,6 +9,7 @@ ghost use Rattle.table.specs.Branches.{branch_of, end_of, childless, foot_kept, 
 ghost use Rattle.table.specs.Walks.{ahead};
 
 use crate::blocks::Block;
+use crate::tables::Table;
 use rules::blocks::{Letter, NONE};
 use rules::edits::Side;
 use std::mem;
@@ -81,26 +82,28 @@ fn is_childless(blocks: &[Block], first: u16, side: Side, other: Side) -> bool
     Branch::new(blocks, first, side).all(|block| is_bare(blocks, block, other))
 }
 
-// Whether i is on the branch that turns off at the end of the branch from the root on, none of whose blocks has a child on
-// the first side.
-fn kept_at_foot(blocks: &[Block], root: u16, side: Side, i: u16) -> bool
-    ensures { result ≡ foot_kept side i blocks.now root }
-{
-    let foot = branch_end(blocks, root, side);
-    let turned = side.opposite();
-    is_childless(blocks, foot, turned, side) && on_branch(blocks, foot, turned, i)
-}
+impl Table {
+    // Whether i is on the branch that turns off at the end of the branch from the root on, none of whose blocks has a child
+    // on the first side.
+    fn kept_at_foot(&self, side: Side, i: u16) -> bool
+        ensures { result ≡ foot_kept side i self.now.blocks.items self.now.root }
+    {
+        let foot = branch_end(&self.blocks, self.root, side);
+        let turned = side.opposite();
+        is_childless(&self.blocks, foot, turned, side) && on_branch(&self.blocks, foot, turned, i)
+    }
 
-// Whether block i keeps that letter.
-pub fn is_letter_kept(blocks: &[Block], root: u16, letter: Letter, i: u16) -> bool
-    ensures links { result ≡ kept_by_links letter i blocks.now root }
-    ensures tree { (t : Tree) → Holds blocks.now root t → result ≡ letter_kept letter i t }
-{
-    match letter {
-        Letter::Free => true,
-        Letter::Bottom => on_branch(blocks, root, Side::Left, i),
-        Letter::Left => on_branch(blocks, root, Side::Right, i),
-        Letter::Right => kept_at_foot(blocks, root, Side::Left, i),
-        Letter::Top => kept_at_foot(blocks, root, Side::Right, i),
+    // Whether block i keeps that letter.
+    pub fn is_letter_kept(&self, letter: Letter, i: u16) -> bool
+        ensures links { result ≡ kept_by_links letter i self.now.blocks.items self.now.root }
+        ensures tree { (t : Tree) → Holds self.now.blocks.items self.now.root t → result ≡ letter_kept letter i t }
+    {
+        match letter {
+            Letter::Free => true,
+            Letter::Bottom => on_branch(&self.blocks, self.root, Side::Left, i),
+            Letter::Left => on_branch(&self.blocks, self.root, Side::Right, i),
+            Letter::Right => self.kept_at_foot(Side::Left, i),
+            Letter::Top => self.kept_at_foot(Side::Right, i),
+        }
     }
 }
