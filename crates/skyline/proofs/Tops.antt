@@ -1,8 +1,9 @@
 -- The highest top over a span, record by record: over the whole span it is the largest over its columns.
-use Rattle.std.proofs.Common.{◌≡◌, ℕ, ◌+◌, ◌<◌, ◌≤◌, min, max, List, [], ◌∷◌, ◌++◌, refl, ap, ◌∙◌, inl, inr, arith}
+use Rattle.std.proofs.Common.{◌≡◌, ℕ, ◌+◌, ◌<◌, ◌≤◌, min, max, List, [], ◌∷◌, ◌++◌, reverse, refl, ap, ◌∙◌, inl, inr, arith}
 use Rattle.std.specs.List.{fold}
 use Rattle.std.proofs.lemmas.Bool.{cases_lt}
 use Rattle.std.proofs.lemmas.Bool.Decides.{nat_tests}
+use Rattle.std.proofs.lemmas.Grind.{reverse_onto}
 use Rattle.skyline.specs.Spans.{Extent, part, highest_top}
 
 max_turn : (a b c : ℕ) → max a (max b c) ≡ max b (max a c)
@@ -12,6 +13,11 @@ module _ {X : Type 0} (e : X → Extent) where
   pub top_push : (xs : List X) (x : X) (a b : ℕ) → highest_top e (xs ++ x ∷ []) a b ≡ max (part (e x) a b) (highest_top e xs a b)
   top_push [] x a b = refl
   top_push (y ∷ ys) x a b = ap (max (part (e y) a b)) (top_push ys x a b) ∙ max_turn (part (e y) a b) (part (e x) a b) (highest_top e ys a b)
+
+  pub top_reverse : (xs : List X) (a b : ℕ) → highest_top e (reverse xs) a b ≡ highest_top e xs a b
+  top_reverse [] a b = refl
+  top_reverse (x ∷ xs) a b =
+      ap (λ zs. highest_top e zs a b) (reverse_onto xs x []) ∙ top_push (reverse xs) x a b ∙ ap (max (part (e x) a b)) (top_reverse xs a b)
 
   top_folds : (xs : List X) (a b n : ℕ) → fold (λ m x. max (part (e x) a b) m) n xs ≡ max n (highest_top e xs a b)
   top_folds [] a b n = omega arith
