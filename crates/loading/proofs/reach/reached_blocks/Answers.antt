@@ -18,28 +18,28 @@ loop-block-init c = (
 
 pub push_block-requires-in-Some : goal.push_block-requires-in-Some
 push_block-requires-in-Some c = λ some.
-    let t = turn c.args.children.now c.requires.few c.requires.tree c.loop-block.invariant.2 c.loop-block.invariant.0 c.in-Some.ensures.0 in
-    omega (arith, t.room, c.in-Some.ensures.1, c.loop-block.invariant.1)
+    let t = turn c.args.children.now c.requires.few c.requires.tree c.loop-block.invariant.2 c.loop-block.invariant.0 c.in-Some.ensures.popped.0 in
+    omega (arith, t.room, c.in-Some.ensures.popped.1, c.loop-block.invariant.1)
 
 pub push_block-requires-in-Some-2 : goal.push_block-requires-in-Some-2
 push_block-requires-in-Some-2 c = λ some.
-    let t = turn c.args.children.now c.requires.few c.requires.tree c.loop-block.invariant.2 c.loop-block.invariant.0 c.in-Some.ensures.0 in
-    omega (arith, t.room_beside some, ap length c.push_block-in-Some.ensures.held, c.push_block-in-Some.ensures.room, c.in-Some.ensures.1, c.loop-block.invariant.1)
+    let t = turn c.args.children.now c.requires.few c.requires.tree c.loop-block.invariant.2 c.loop-block.invariant.0 c.in-Some.ensures.popped.0 in
+    omega (arith, t.room_beside some, ap length c.push_block-in-Some.ensures.held, c.push_block-in-Some.ensures.room, c.in-Some.ensures.popped.1, c.loop-block.invariant.1)
 
 pub loop-block-smaller : goal.loop-block-smaller
 loop-block-smaller c =
-    let t = turn c.args.children.now c.requires.few c.requires.tree c.loop-block.invariant.2 c.loop-block.invariant.0 c.in-Some.ensures.0 in
+    let t = turn c.args.children.now c.requires.few c.requires.tree c.loop-block.invariant.2 c.loop-block.invariant.0 c.in-Some.ensures.popped.0 in
     omega (arith, t.fewer, t.more)
 
 pub loop-block-preserved : goal.loop-block-preserved
 loop-block-preserved c =
     let e = c.in-Some.block in
-    let t = turn c.args.children.now c.requires.few c.requires.tree c.loop-block.invariant.2 c.loop-block.invariant.0 c.in-Some.ensures.0 in
+    let t = turn c.args.children.now c.requires.few c.requires.tree c.loop-block.invariant.2 c.loop-block.invariant.0 c.in-Some.ensures.popped.0 in
     let stacked = c.push_block-in-Some-2.ensures.held ∙ ap (added (left_of c.args.children.now e)) c.push_block-in-Some.ensures.held in (
       restacked stacked t.again,
-      omega (arith, c.push_block-in-Some-2.ensures.room, c.push_block-in-Some.ensures.room, c.in-Some.ensures.1, c.loop-block.invariant.1),
+      omega (arith, c.push_block-in-Some-2.ensures.room, c.push_block-in-Some.ensures.room, c.in-Some.ensures.popped.1, c.loop-block.invariant.1),
       length-set _ _ _ ∙ c.loop-block.invariant.2,
     )
 
 pub returns : goal.returns
-returns c = walk_end c.args.children.now c.requires.few c.loop-block.invariant.0 c.in_default.ensures.0
+returns c = walk_end c.args.children.now c.requires.few c.loop-block.invariant.0 c.in_default.ensures.popped.0
