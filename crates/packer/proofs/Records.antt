@@ -1,8 +1,8 @@
 -- The records of the placed blocks, block by block.
-use Rattle.std.proofs.Common.{◌≡◌, ℕ, zero, suc, ◌+◌, ◌<◌, ◌≤◌, cond, eqb, List, [], ◌∷◌, ◌++◌, map, length, get_or, take, drop, set, replicate, sym, refl, ap, ◌∙◌, subst, inl, inr, arith}
+use Rattle.std.proofs.Common.{◌≡◌, ℕ, zero, suc, ◌+◌, ◌<◌, ◌≤◌, cond, eqb, List, [], ◌∷◌, ◌++◌, map, length, get_or, drop, set, replicate, sym, refl, ap, ◌∙◌, inl, inr, arith}
 use Rattle.std.specs.List.{range_with_len}
 use Rattle.std.proofs.lemmas.Bool.{cases_eq, eq-eqb, ne_eqb, cond-true, cond-false}
-use Rattle.std.proofs.lemmas.List.{ext_get_or, length-set, get_or-set_same, get_or-set_other, set-append_left, length-append, length-take-le}
+use Rattle.std.proofs.lemmas.List.{ext_get_or, length-set, get_or-set_same, get_or-set_other, set-append_left, length-append}
 use Rattle.std.proofs.lemmas.List.FromFn.{length-map-range_with_len, get_or-map-range_with_len}
 use Rattle.rules.specs.declared.placements.Placement.{Placement}
 use Rattle.rules.specs.Packing.{Rect}
@@ -47,12 +47,8 @@ none_of a zero = refl
 none_of a (suc n) = ap (λ (rs : List Placement). nowhere ∷ rs) (none_of (a + 1) n)
 
 -- blanked records
-pub blanked : (n k : ℕ) (before front : List Placement) (v : Placement) → k ≡ n → k ≤ length before → v ≡ nowhere → front ≡ replicate (length (take k before)) v
-    → front ++ drop k before ≡ recorded [] n before
-blanked n k before front v e h z f =
-    let long = length-take-le k before h in
-    let P : ℕ → Type 0 = λ (j : ℕ). front ++ drop k before ≡ recorded [] j before in
-    subst P e (ap (λ (rs : List Placement). rs ++ drop k before) (f ∙ ap (λ (m : ℕ). replicate m v) long ∙ ap (replicate k) z ∙ none_of 0 k))
+pub recorded_none : (n : ℕ) (before : List Placement) → recorded [] n before ≡ replicate n nowhere ++ drop n before
+recorded_none n before = ap (λ (rs : List Placement). rs ++ drop n before) (sym (none_of 0 n))
 
 pub recorded_long : (ps : List Rect) (n : ℕ) (before : List Placement) → n ≤ length (recorded ps n before)
 recorded_long ps n before = omega (arith, length-append (map (record_of ps) (range_with_len 0 n)) (drop n before), length-map-range_with_len (record_of ps) 0 n)

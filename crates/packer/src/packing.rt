@@ -59,7 +59,8 @@ fn tested_reach<S: Skyline>(
     Ok(reach)
 }
 
-// Places the present blocks of a plan, each resting on those before it in depth-first order, and writes one record a block.
+// Places the present blocks of a plan, each resting on those before it in depth-first order, and writes one record a block. It
+// stands apart from `pack`, whose clause `shows` follows from this whole clause, for the refused and the accepted at once.
 fn pack_plan<S: Skyline>(
     plan: &Plan,
     skyline: &mut S,
@@ -73,6 +74,7 @@ fn pack_plan<S: Skyline>(
     Ok(Extent { width, height })
 }
 
+// The skyline and the two slices stay apart: in a struct each would owe a clause more, that it is still the one lent.
 // Packs the plan in hand over a skyline in any state: `gives` says what it answers and leaves, `shows` what every accepted packing
 // shows, for every list of calls that led to the plan.
 pub fn pack<S: Skyline>(

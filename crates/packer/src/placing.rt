@@ -1,8 +1,8 @@
 // Placing the blocks of a plan on a skyline, one after the other.
-ghost use Rattle.std.specs.Prelude.{◌≡◌, ℕ, ◌+◌, ◌<◌, ◌≤◌, length};
+ghost use Rattle.std.specs.Prelude.{◌≡◌, ℕ, ◌+◌, ◌<◌, ◌≤◌, ◌++◌, length, drop, replicate};
 ghost use Rattle.rules.specs.Packing.{packed, height as height_of};
 ghost use Rattle.rules.specs.Skylines.{Within, Largest};
-ghost use Rattle.promises.specs.Packs.{Under, with_placements};
+ghost use Rattle.promises.specs.Packs.{nowhere, Under, with_placements};
 ghost use Rattle.plan.specs.Sound.{plan_of};
 ghost use Rattle.plan.specs.Meaning.{rows, root_of};
 ghost use Rattle.packer.specs.Places.{Placed, Enough};
@@ -12,6 +12,14 @@ use crate::walking::Walk;
 use plan::Plan;
 use rules::placements::Placement;
 use skyline::skylines::Skyline;
+
+// Makes blocks 0 to n - 1 absent in the records.
+fn blank_records(places: &mut [Placement], n: usize)
+    requires { n ≤ length places.old }
+    ensures { places.new ≡ replicate n nowhere ++ drop n places.old }
+{
+    places[..n].fill(Placement::default());
+}
 
 // Rests a block on the highest column under it, and raises the skyline to its top.
 fn place_block<S: Skyline>(skyline: &mut S, visit: Visit) -> Placement
@@ -48,8 +56,7 @@ pub(crate) fn place_all<S: Skyline>(
     ensures places { places.new ≡ with_placements (plan_of (rows plan.now) (root_of plan.now)) places.old }
     ensures skyline { Under (plan_of (rows plan.now) (root_of plan.now)) (S.Skyline.meaning skyline.old) (S.Skyline.meaning skyline.new) }
 {
-    let blocks = plan.blocks().len();
-    places[..blocks].fill(Placement::default());
+    blank_records(places, plan.blocks().len());
     skyline.clear();
     let mut height = 0;
     for visit in Walk::new(plan, walk) {

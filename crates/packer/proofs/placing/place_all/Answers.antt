@@ -1,5 +1,4 @@
-use Rattle.std.proofs.Common.{◌≡◌, ◌+◌, ◌≤◌, length, sym, refl, ap, ◌∙◌, arith, rules}
-use Rattle.std.proofs.lemmas.List.{length-take-le}
+use Rattle.std.proofs.Common.{drop, replicate, ◌++◌, ◌+◌, ◌≤◌, length, sym, refl, ap, ◌∙◌, arith, rules}
 use Rattle.rules.specs.Packing.{packed}
 use Rattle.promises.specs.Packs.{nowhere}
 use Rattle.plan.specs.Meaning.{rows, root_of}
@@ -8,22 +7,19 @@ use Rattle.packer.specs.Places.{recorded}
 use Rattle.packer.specs.Ahead.{ahead}
 use Rattle.packer.proofs.Present.{rows_are}
 use Rattle.packer.proofs.Standing.{stands}
-use Rattle.packer.proofs.Records.{blanked}
+use Rattle.packer.proofs.Records.{recorded_none}
 use Rattle.packer.proofs.Filling.{fill_start, fill_end, fill_turn, known, within, some_left, flat}
 use Rattle.packer.proofs.placing.place_all.Goals as goal
 
-pub slice_bounds-fill-end : goal.slice_bounds-fill-end
-slice_bounds-fill-end g c = omega (arith, rows_are c.args.plan.now, ap length c.blocks-blocks.ensures, c.requires.records_long)
-
-pub slice_bounds-fill-end-2 : goal.slice_bounds-fill-end-2
-slice_bounds-fill-end-2 g c = sym (length-take-le _ _ (omega (arith, rows_are c.args.plan.now, ap length c.blocks-blocks.ensures, c.requires.records_long)))
+pub blank_records-requires : goal.blank_records-requires
+blank_records-requires g c = omega (arith, rows_are c.args.plan.now, ap length c.blocks-2.ensures, c.requires.records_long)
 
 pub loop-visit-init : goal.loop-visit-init
 loop-visit-init g c =
-    let rows_long : length c.blocks-blocks.result.now ≤ length c.args.places.now = omega (arith, rows_are c.args.plan.now, ap length c.blocks-blocks.ensures, c.requires.records_long) in
-    let zero : c.default.result ≡ nowhere = search rules in
+    let before = c.args.places.now in
+    let rows_long = ap length c.blocks-2.ensures in
     fill_start (stands c.args.plan.now) (ap ahead c.into_iter-visit-iterator.ensures.into_iter_gives ∙ c.new-visit-items.ensures) c.clear.ensures
-    (blanked (length (rows c.args.plan.now)) (length c.blocks-blocks.result.now) c.args.places.now c.fill.new.self c.default.result (ap length c.blocks-blocks.ensures) rows_long zero (c.fill.ensures.after (λ y h. h)))
+    (c.blank_records.ensures ∙ ap (λ n. replicate n nowhere ++ drop n before) rows_long ∙ sym (recorded_none _ before))
 
 pub place_block-place-requires : goal.place_block-place-requires
 place_block-place-requires g c =
@@ -44,7 +40,7 @@ overflow_add-place g c =
 
 pub loop-visit-preserved : goal.loop-visit-preserved
 loop-visit-preserved g c =
-    fill_turn (stands c.args.plan.now) c.loop-visit.invariant c.in-Some.ensures.steps c.requires c.place_block-place.ensures refl c.max-height.ensures
+    fill_turn (stands c.args.plan.now) c.loop-visit.invariant c.in-Some.ensures.steps c.requires c.place_block-place.ensures refl (omega (arith, c.max-height.ensures))
 
 pub returns : goal.returns
 returns g c =
