@@ -120,6 +120,7 @@ fn perform<S: Skyline>(
 // Performs a list of calls from a new plan on, and packs the plan that it leads to. The plan given is any settled one, whose
 // memory is used. A load of the list uses the first walk records, a packing the spots and the placement records. A list out of
 // turn is refused, and nothing is altered.
+// The four parts of the memory stay apart: in a struct each would owe a clause more, that it is still the one lent.
 pub fn pack_after<S: Skyline>(
     plan: Settled,
     calls: &[Call],

@@ -74,9 +74,9 @@ fn pack_plan<S: Skyline>(
     Ok(Extent { width, height })
 }
 
-// The skyline and the two slices stay apart: in a struct each would owe a clause more, that it is still the one lent.
 // Packs the plan in hand over a skyline in any state: `gives` says what it answers and leaves, `shows` what every accepted packing
 // shows, for every list of calls that led to the plan.
+// The skyline and the two slices stay apart: in a struct each would owe a clause more, that it is still the one lent.
 pub fn pack<S: Skyline>(
     plan: &Plan,
     skyline: &mut S,
