@@ -1,15 +1,11 @@
 -- How many blocks settle, how far right, and how high.
-use Rattle.std.proofs.Common.{◌≡◌, ℕ, ◌+◌, ◌*◌, ◌≤◌, max, Bool, true, false, cond, List, [], ◌∷◌, length, refl, ap, inl, inr, arith}
-use Rattle.std.proofs.lemmas.List.{length-append, get_or_past}
-use Rattle.std.proofs.lemmas.Bool.{cases_lt}
+use Rattle.std.proofs.Common.{◌≡◌, ℕ, ◌+◌, ◌*◌, ◌≤◌, max, Bool, true, false, cond, List, [], ◌∷◌, length, refl, ap, arith}
+use Rattle.std.proofs.lemmas.List.{length-append}
 use Rattle.rules.specs.declared.blocks.Size.{Size}
 use Rattle.rules.specs.Trees.{Tree, empty, node, size}
 use Rattle.rules.specs.Plans.{Plan, size_at}
 use Rattle.rules.specs.Packing.{Spot, spots, Rect, right_edge, top, meet, highest, rest_on, settle, packed, reach, height}
 use Rattle.geometry.proofs.Settling.{settle_append}
-use Rattle.table.specs.declared.blocks.Block.{Block}
-use Rattle.table.specs.Tables.{at, blank}
-use Rattle.packer.specs.Walks.{StandsFor}
 
 pub length_spots : (sizes : List Size) (t : Tree) (x : ℕ) → length (spots sizes t x) ≡ size t
 unfolding size
@@ -18,21 +14,12 @@ length_spots sizes (node i l r) x =
     let edge = x + (size_at sizes i).width in
     omega (arith, length-append (spots sizes l edge) (spots sizes r x), length_spots sizes l edge, length_spots sizes r x)
 
-pub length_settle : (sizes : List Size) (ps : List Rect) (ss : List Spot) → length (settle sizes ps ss) ≡ length ps + length ss
+length_settle : (sizes : List Size) (ps : List Rect) (ss : List Spot) → length (settle sizes ps ss) ≡ length ps + length ss
 length_settle sizes ps [] = omega arith
 length_settle sizes ps (s ∷ ss) = omega (arith, length_settle sizes (rest_on sizes ps s ∷ ps) ss)
 
 pub length_packed : (p : Plan) → length (packed p) ≡ size p.tree
 length_packed p = omega (arith, length_settle p.sizes [] (spots p.sizes p.tree 0), length_spots p.sizes p.tree 0)
-
--- blocks placed later only add to the reach and to the height
-pub reach_grows : (sizes : List Size) (ps : List Rect) (ss : List Spot) → reach ps ≤ reach (settle sizes ps ss)
-reach_grows sizes ps [] = omega arith
-reach_grows sizes ps (s ∷ ss) = omega (arith, reach_grows sizes (rest_on sizes ps s ∷ ps) ss)
-
-pub height_grows : (sizes : List Size) (ps : List Rect) (ss : List Spot) → height ps ≤ height (settle sizes ps ss)
-height_grows sizes ps [] = omega arith
-height_grows sizes ps (s ∷ ss) = omega (arith, height_grows sizes (rest_on sizes ps s ∷ ps) ss)
 
 highest_height : (ps : List Rect) (a b : ℕ) → highest ps a b ≤ height ps
 highest_height [] a b = omega arith
@@ -62,26 +49,13 @@ module _ (sizes : List Size) (narrow : (i : ℕ) → (size_at sizes i).width ≤
       let with_own = rest_on sizes ps (record { block = i; left = x }) ∷ ps in
       let with_left = settle sizes with_own (spots sizes l edge) in
       let joined = ap reach (settle_append sizes with_own (spots sizes l edge) (spots sizes r x)) in
-      let BelowLeft = near_settle with_own l edge in
-      let BelowRight = near_settle with_left r x in
+      let below_left = near_settle with_own l edge in
+      let below_right = near_settle with_left r x in
       omega arith
 
-module _ {bs : List Block} {root : ℕ} {p : Plan} (rows : StandsFor bs root p) where
-  short : (i : ℕ) → ((at bs i).size.width ≤ 131072) × ((at bs i).size.height ≤ 131072)
-  short i = elim (cases_lt i (length bs)) [
-    | inl l ↦ ((rows.sides i l).narrow, (rows.sides i l).flat)
-    | inr l ↦
-        let none = ap (λ (b : Block). b.size) (get_or_past bs i blank l) in
-        (omega (arith, ap (λ (s : Size). s.width) none), omega (arith, ap (λ (s : Size). s.height) none))
-  ]
+-- no higher than the blocks one on the other, and no further right than the blocks side by side
+pub packed_low : (p : Plan) → ((i : ℕ) → (size_at p.sizes i).height ≤ 131072) → height (packed p) ≤ 131072 * size p.tree
+packed_low p flat = omega (arith, low_settle p.sizes flat [] (spots p.sizes p.tree 0) (omega arith), length_packed p)
 
-  -- 512 blocks of height 131,072 at most
-  pub packed_low : height (packed p) ≤ 67108864
-  packed_low =
-      let flat : (i : ℕ) → (size_at p.sizes i).height ≤ 131072 = λ i. omega (arith, ap (λ (s : Size). s.height) (rows.sized i), (short i).1) in
-      omega (arith, low_settle p.sizes flat [] (spots p.sizes p.tree 0) (omega arith), length_packed p, rows.small, rows.few)
-
-  pub packed_near : reach (packed p) ≤ 67108864
-  packed_near =
-      let narrow : (i : ℕ) → (size_at p.sizes i).width ≤ 131072 = λ i. omega (arith, ap (λ (s : Size). s.width) (rows.sized i), (short i).0) in
-      omega (arith, near_settle p.sizes narrow [] p.tree 0, rows.small, rows.few)
+pub packed_near : (p : Plan) → ((i : ℕ) → (size_at p.sizes i).width ≤ 131072) → reach (packed p) ≤ 131072 * size p.tree
+packed_near p narrow = omega (arith, near_settle p.sizes narrow [] p.tree 0)

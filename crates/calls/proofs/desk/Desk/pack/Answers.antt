@@ -4,11 +4,11 @@ use Rattle.plan.specs.Sound.{plan_of}
 use Rattle.packer.specs.Gives.{PackGives}
 use Rattle.packer.specs.Shows.{PackShows}
 use Rattle.calls.proofs.Handing.{plan_in, in_book, pack_told, pack_promises}
-use Rattle.calls.proofs.hand.pack_in_hand.Goals as goal
+use Rattle.calls.proofs.desk.Desk.pack.Goals as goal
 
 pub returns : goal.returns
 returns g c =
-    let desk = c.args.desk.now in
+    let desk = c.args.self.now in
     let same : plan_of (rows c.plan.result.now) (root_of c.plan.result.now) ≡ plan_in desk = ap (λ p. plan_of (rows p) (root_of p)) c.plan.ensures in
     let shows = subst (λ p. PackShows p (g.S.Skyline.meaning c.pack.new.skyline) c.pack.new.places c.pack.result) same c.pack.ensures.shows in
     record {
