@@ -16,7 +16,7 @@ use crate::desk::Desk;
 use crate::turns::in_turn;
 use packer::{Extent, Spot};
 use plan::{Settled, Tried};
-use rules::blocks::NONE;
+use rules::blocks::{Lists, NONE};
 use rules::placements::Placement;
 use rules::refusals::Refusal;
 use skyline::skylines::Skyline;
@@ -25,7 +25,13 @@ use skyline::skylines::Skyline;
 fn renewed(mut plan: Settled) -> Settled
     ensures { SettledBy [] result }
 {
-    let _ = plan.load(&[], &[], &[], NONE, &mut []);
+    let no_blocks = Lists {
+        sizes: &[],
+        letters: &[],
+        children: &[],
+        root: NONE,
+    };
+    let _ = plan.load(no_blocks, &mut []);
     plan
 }
 
@@ -36,13 +42,7 @@ fn load(plan: &mut Settled, loading: &Loading, walk: &mut [u16])
 {
     let Loading { lists, walk: most } = *loading;
     let records = most.min(walk.len());
-    let _ = plan.load(
-        lists.sizes,
-        lists.letters,
-        lists.children,
-        lists.root,
-        &mut walk[..records],
-    );
+    let _ = plan.load(lists, &mut walk[..records]);
 }
 
 // A call on a settled plan, but for a packing; keep and undo are out of turn.

@@ -87,7 +87,7 @@ pub record Turned (bs : List Block) (e : Spot) (es : List Spot) (room : ℕ) : T
   pub off : Underway bs es room
   pub near : Near (length bs) (met bs e)
   pub room_first : length es < room
-  pub room_second : length (put (at bs e.block).right e.left es) < room
+  pub room_second : length (put (at bs e.block).children.right e.left es) < room
 
 module _ (bs : List Block) (e : Spot) (es : List Spot) (room : ℕ) (u : Underway bs (e ∷ es) room) where
   turned_at : (t : Tree) → table_tree bs e.block ≡ t → Sp bs (length bs) e.block t → Turned bs e es room

@@ -51,8 +51,8 @@ impl<'a> Iterator for Walk<'a> {
     fn next(&mut self) -> Option<Visit> {
         let spot = self.stack.pop()?;
         let row = self.blocks[spot.block as usize];
-        push_present(&mut self.stack, row.right, spot.left);
-        push_present(&mut self.stack, row.left, spot.left + row.size.width);
+        push_present(&mut self.stack, row.children.right, spot.left);
+        push_present(&mut self.stack, row.children.left, spot.left + row.size.width);
         Some(Visit {
             block: spot.block,
             left: spot.left,
