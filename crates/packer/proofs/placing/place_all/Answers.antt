@@ -1,4 +1,4 @@
-use Rattle.std.proofs.Common.{[], drop, replicate, ◌++◌, ◌+◌, ◌≤◌, length, sym, refl, ap, ◌∙◌, arith, rules}
+use Rattle.std.proofs.Common.{◌≡◌, [], drop, replicate, ◌++◌, ◌+◌, ◌≤◌, length, sym, refl, ap, ◌∙◌, arith, rules}
 use Rattle.rules.specs.Packing.{packed}
 use Rattle.promises.specs.Packs.{nowhere}
 use Rattle.plan.specs.Meaning.{rows, root_of}
@@ -19,7 +19,7 @@ loop-visit-init g c =
     let before = c.args.places.now in
     let n = length (rows c.args.plan.now) in
     let blank : c.blank_records.new.places ≡ recorded [] n before =
-        c.blank_records.ensures ∙ ap (λ k. replicate k nowhere ++ drop k before) (ap length c.blocks-2.ensures) ∙ sym (recorded_none n before) in
+    c.blank_records.ensures ∙ ap (λ k. replicate k nowhere ++ drop k before) (ap length c.blocks-2.ensures) ∙ sym (recorded_none n before) in
     fill_start (stands c.args.plan.now) (ap ahead c.into_iter-visit-iterator.ensures.into_iter_gives ∙ c.new-visit-items.ensures) c.clear.ensures blank
 
 pub place_block-place-requires : goal.place_block-place-requires
