@@ -17,7 +17,7 @@ use crate::hand::pack_in_hand;
 use crate::turns::first_out_of_turn;
 use packer::{Extent, Spot};
 use plan::{Settled, Tried};
-use rules::blocks::NONE;
+use rules::blocks::{Lists, NONE};
 use rules::placements::Placement;
 use rules::refusals::Refusal;
 use skyline::skylines::Skyline;
@@ -27,7 +27,13 @@ fn renewed(plan: Settled) -> Settled
     ensures { SettledBy [] result }
 {
     let mut plan = plan;
-    let _ = plan.load(&[], &[], &[], NONE, &mut []);
+    let lists = Lists {
+        sizes: &[],
+        letters: &[],
+        children: &[],
+        root: NONE,
+    };
+    let _ = plan.load(lists, &mut []);
     plan
 }
 
@@ -37,13 +43,7 @@ fn load_list(plan: &mut Settled, list: &Loading, walk: &mut [u16])
     ensures walk { (reason : Refusal) → room_refusal (load_given (length walk.old) list.now) None ≡ Some reason → walk.new ≡ walk.old }
 {
     let records = list.walk.min(walk.len());
-    let _ = plan.load(
-        list.sizes,
-        list.letters,
-        list.children,
-        list.root,
-        &mut walk[..records],
-    );
+    let _ = plan.load(list.lists, &mut walk[..records]);
 }
 
 // A call on a settled plan, but for a packing; keep and undo are out of turn.

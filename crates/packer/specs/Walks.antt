@@ -14,7 +14,7 @@ put k x es = cond (k == 65535) es (record { block = k; left = x } ∷ es)
 
 -- the entries with a block's children on top, the left one above the right one; x is the block's left edge
 abbrev pub after : Block → ℕ → List Spot → List Spot
-after b x es = put b.left (x + b.size.width) (put b.right x es)
+after b x es = put b.children.left (x + b.size.width) (put b.children.right x es)
 
 -- both sides are at most 131,072, and the width is not 0
 pub record Sides (s : Size) : Type 0 where

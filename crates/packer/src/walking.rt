@@ -25,13 +25,13 @@ pub(crate) fn push_present(stack: &mut Stack<Spot>, link: u16, left: u32)
 // Puts both children of a block on the stack, the left one on top.
 pub(crate) fn push_children(stack: &mut Stack<Spot>, block: Block, left: u32)
     requires near { left + block.size.width ≤ 67108864 }
-    requires right { block.right < 65535 → length (held stack.old) < room stack.old }
-    requires left { block.left < 65535 → length (put block.right left (held stack.old)) < room stack.old }
+    requires right { block.children.right < 65535 → length (held stack.old) < room stack.old }
+    requires left { block.children.left < 65535 → length (put block.children.right left (held stack.old)) < room stack.old }
     ensures room { room stack.new ≡ room stack.old }
     ensures held { held stack.new ≡ after block left (held stack.old) }
 {
-    push_present(stack, block.right, left);
-    push_present(stack, block.left, left + block.size.width);
+    push_present(stack, block.children.right, left);
+    push_present(stack, block.children.left, left + block.size.width);
 }
 
 // The largest right edge, by a walk with a stack in that memory.

@@ -12,6 +12,6 @@ returns c =
     let walk = c.args.walk.now in
     let n : length (take c.min-records.result walk) ≡ min l.walk (length walk) = length-take c.min-records.result walk ∙ omega (arith, c.min-records.ensures) in
     record {
-      told = subst (λ w. (cs : List Call) → SettledBy cs c.args.plan.now → SettledBy (cs ++ (load (given l.sizes.now l.letters.now l.children.now l.root w) ∷ [])) c.load.new.self) n c.load.ensures.told;
-      walk = λ reason e. ap (λ front. front ++ drop c.min-records.result walk) (subst (λ w. room_refusal (given l.sizes.now l.letters.now l.children.now l.root w) None ≡ Some reason → c.load.new.walk ≡ take c.min-records.result walk) n (c.load.ensures.walk reason) e) ∙ take-append-drop c.min-records.result walk;
+      told = subst (λ w. (cs : List Call) → SettledBy cs c.args.plan.now → SettledBy (cs ++ (load (given l.lists w) ∷ [])) c.load.new.self) n c.load.ensures.told;
+      walk = λ reason e. ap (λ front. front ++ drop c.min-records.result walk) (subst (λ w. room_refusal (given l.lists w) None ≡ Some reason → c.load.new.walk ≡ take c.min-records.result walk) n (c.load.ensures.walk reason) e) ∙ take-append-drop c.min-records.result walk;
     }

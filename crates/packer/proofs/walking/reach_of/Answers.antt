@@ -17,36 +17,36 @@ loop-spot-init c = (
 )
 
 pub bounds-blocks-spot : goal.bounds-blocks-spot
-bounds-blocks-spot c = (turn c.requires.plan c.loop-spot.invariant.0.1 c.in-Some.ensures.0).within
+bounds-blocks-spot c = (turn c.requires.plan c.loop-spot.invariant.0.1 c.in-Some.ensures.popped.0).within
 
 pub overflow_add-spot : goal.overflow_add-spot
 overflow_add-spot c =
-    let t = turn c.requires.plan c.loop-spot.invariant.0.1 c.in-Some.ensures.0 in
+    let t = turn c.requires.plan c.loop-spot.invariant.0.1 c.in-Some.ensures.popped.0 in
     let e = c.in-Some.spot in
     let h : e.left + (at c.args.blocks.now e.block).size.width ≤ 67108864 = omega (arith, t.edge, packed_near c.requires.plan) in
     search rules
 
 pub push_children-requires : goal.push_children-requires
 push_children-requires c =
-    let t = turn c.requires.plan c.loop-spot.invariant.0.1 c.in-Some.ensures.0 in
+    let t = turn c.requires.plan c.loop-spot.invariant.0.1 c.in-Some.ensures.popped.0 in
     record {
       near = omega (arith, t.edge, packed_near c.requires.plan);
-      right = λ _. omega (arith, t.room, c.in-Some.ensures.1, c.loop-spot.invariant.1);
-      left = λ some. omega (arith, t.room_beside some, c.in-Some.ensures.1, c.loop-spot.invariant.1);
+      right = λ _. omega (arith, t.room, c.in-Some.ensures.popped.1, c.loop-spot.invariant.1);
+      left = λ some. omega (arith, t.room_beside some, c.in-Some.ensures.popped.1, c.loop-spot.invariant.1);
     }
 
 pub loop-spot-smaller : goal.loop-spot-smaller
 loop-spot-smaller c =
-    let t = turn c.requires.plan c.loop-spot.invariant.0.1 c.in-Some.ensures.0 in
+    let t = turn c.requires.plan c.loop-spot.invariant.0.1 c.in-Some.ensures.popped.0 in
     let bs = c.args.blocks.now in
-    omega (arith, t.fewer, ap (to_walk bs) c.in-Some.ensures.0, ap (to_walk bs) c.push_children.ensures.held)
+    omega (arith, t.fewer, ap (to_walk bs) c.in-Some.ensures.popped.0, ap (to_walk bs) c.push_children.ensures.held)
 
 pub loop-spot-preserved : goal.loop-spot-preserved
 loop-spot-preserved c =
-    let t = turn c.requires.plan c.loop-spot.invariant.0.1 c.in-Some.ensures.0 in (
+    let t = turn c.requires.plan c.loop-spot.invariant.0.1 c.in-Some.ensures.popped.0 in (
       (_, restacked c.push_children.ensures.held t.again, c.max-reach.ensures ∙ ap (max _) c.loop-spot.invariant.0.2),
-      omega (arith, c.push_children.ensures.room, c.in-Some.ensures.1, c.loop-spot.invariant.1),
+      omega (arith, c.push_children.ensures.room, c.in-Some.ensures.popped.1, c.loop-spot.invariant.1),
     )
 
 pub returns : goal.returns
-returns c = c.loop-spot.invariant.0.2 ∙ ap reach (finish c.requires.plan c.loop-spot.invariant.0.1 c.in_default.ensures.0)
+returns c = c.loop-spot.invariant.0.2 ∙ ap reach (finish c.requires.plan c.loop-spot.invariant.0.1 c.in_default.ensures.popped.0)
