@@ -1,3 +1,4 @@
 pub mod Naming
 pub mod Passing
 pub mod Loading
+pub mod Calls

@@ -1,13 +1,10 @@
 // The links of the tree.
-ghost use Rattle.std.specs.Prelude.{◌≡◌, ◌<◌, ◌≤◌, take};
-ghost use Rattle.heap_tree.specs.Heap.{child_link, child_pair, heap_children};
+ghost use Rattle.std.specs.Prelude.{◌≡◌, ◌<◌, ◌≤◌, map};
+ghost use Rattle.std.specs.List.{range_with_len};
+ghost use Rattle.heap_tree.specs.Heap.{child_link, child_pair};
 
 use rules::blocks::{Children, MOST_BLOCKS, NONE};
-
-const NO_CHILDREN: Children = Children {
-    left: NONE,
-    right: NONE,
-};
+use std::array;
 
 // The number i if there is such a block, else none.
 fn child_link(i: usize, blocks: usize) -> u16
@@ -26,7 +23,7 @@ pub(crate) fn root_link(blocks: usize) -> u16
 }
 
 fn child_pair(k: usize, blocks: usize) -> Children
-    requires { (k < blocks) × (blocks ≤ 512) }
+    requires { (k < 512) × (blocks ≤ 512) }
     ensures { result ≡ child_pair blocks k }
 {
     let (left, right) = (2 * k + 1, 2 * k + 2);
@@ -36,14 +33,10 @@ fn child_pair(k: usize, blocks: usize) -> Children
     }
 }
 
-// The child pairs of so many blocks, at the front.
+// The child pairs of so many blocks at the front, and behind them no children.
 pub(crate) fn child_pairs(blocks: usize) -> [Children; MOST_BLOCKS]
     requires { blocks ≤ 512 }
-    ensures { take blocks result ≡ heap_children blocks }
+    ensures { result ≡ map (child_pair blocks) (range_with_len 0 512) }
 {
-    let mut pairs = [NO_CHILDREN; MOST_BLOCKS];
-    for k in 0..blocks {
-        pairs[k] = child_pair(k, blocks);
-    }
-    pairs
+    array::from_fn(|k| child_pair(k, blocks))
 }

@@ -6,7 +6,7 @@ use columns::Columns;
 use counted::Counted;
 use packer::{Spot, pack};
 use plan::{Plan, Settled};
-use rules::blocks::{Children, NONE, Size};
+use rules::blocks::{Children, Lists, NONE, Size};
 use rules::edits::Edit;
 use rules::placements::Placement;
 use skyline::skylines::Skyline;
@@ -74,7 +74,13 @@ fn show<S: Skyline>(rt: &HostRuntime, plan: &Plan, skyline: &mut S) -> io::Resul
 
 fn main(rt: HostRuntime) -> io::Result<()> {
     let mut plan = Settled::new(rt.alloc())?;
-    let _ = plan.load(&SIZES, b"FFFFF", &CHILDREN, 0, &mut [0; 5]);
+    let lists = Lists {
+        sizes: &SIZES,
+        letters: b"FFFFF",
+        children: &CHILDREN,
+        root: 0,
+    };
+    let _ = plan.load(lists, &mut [0; 5]);
     let mut heights = [0; 16];
     let mut skyline = Counted {
         inner: Columns::new(&mut heights),

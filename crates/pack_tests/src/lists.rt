@@ -1,6 +1,6 @@
 // Loading a plan of free blocks.
 use plan::Settled;
-use rules::blocks::{Children, Size};
+use rules::blocks::{Children, Lists, Size};
 use std::alloc::{AllocError, Global};
 
 // Whether load takes the lists.
@@ -13,6 +13,12 @@ pub fn load(
 ) -> Result<bool, AllocError> {
     let letters = vec![in heap; b'F'; sizes.len()]?;
     let mut walk = vec![in heap; 0u16; sizes.len()]?;
-    let answer = plan.load(sizes, &letters, children, root, &mut walk);
+    let lists = Lists {
+        sizes,
+        letters: &letters,
+        children,
+        root,
+    };
+    let answer = plan.load(lists, &mut walk);
     Ok(answer.is_ok())
 }

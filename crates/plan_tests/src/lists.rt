@@ -1,7 +1,7 @@
 // The lists that a load is given.
 use crate::places::Place;
 use plan::Settled;
-use rules::blocks::{Children, Size};
+use rules::blocks::{self, Children, Size};
 use rules::refusals::Refusal;
 use std::alloc::{AllocError, Global};
 
@@ -52,6 +52,12 @@ impl Lists {
     }
 
     pub fn load(&self, plan: &mut Settled, walk: &mut [u16]) -> Result<usize, Refusal> {
-        plan.load(&self.sizes, &self.letters, &self.children, self.root, walk)
+        let given = blocks::Lists {
+            sizes: &self.sizes,
+            letters: &self.letters,
+            children: &self.children,
+            root: self.root,
+        };
+        plan.load(given, walk)
     }
 }

@@ -2,6 +2,7 @@
 use crate::answers::Answer;
 use crate::lists::Lists;
 use plan::{Plan, Report, Settled, Tried};
+use rules::blocks;
 use rules::refusals::Refusal;
 use script::line::Line;
 use std::alloc::{AllocError, Global};
@@ -55,13 +56,13 @@ fn settled_call(
     match line {
         Line::Load(root, walk) => {
             let mut records = vec![in heap; 0u16; walk as usize]?;
-            let answer = loaded(plan.load(
-                &lists.sizes,
-                &lists.letters,
-                &lists.children,
+            let given = blocks::Lists {
+                sizes: &lists.sizes,
+                letters: &lists.letters,
+                children: &lists.children,
                 root,
-                &mut records,
-            ));
+            };
+            let answer = loaded(plan.load(given, &mut records));
             Ok((Desk::Settled(plan), answer))
         }
         Line::Test(edit) => {
