@@ -1,10 +1,10 @@
 -- The first word of a line.
 use Rattle.std.proofs.Common.{◌≡◌, ℕ, zero, suc, ◌+◌, ◌-◌, ◌<◌, ◌≤◌, Bool, true, false, not, ◌||◌, List, [], ◌∷◌, length, get_or, take, drop, sym, max, refl, ap, ◌∙◌, ⊎_elim, arith}
 use Rattle.std.specs.List.{prefix_len}
-use Rattle.std.proofs.lemmas.List.{take_rest, get_or-drop, length-drop}
-use Rattle.std.proofs.lemmas.Bool.{cond-true, cond-false, cond_both, cases_Bool, not-true, not-false, or_parts}
+use Rattle.std.proofs.lemmas.List.{take_rest, get_or-drop, length-drop, length-take-le, nil_from_length}
+use Rattle.std.proofs.lemmas.Bool.{cond-true, cond-false, cond_both, cases_Bool, cases_lt, not-true, not-false, or_parts}
 use Rattle.std.proofs.lemmas.List.Sums.{prefix_len-le-length, prefix_len_passes, prefix_len_stops}
-use Rattle.words.specs.Words.{onto, plain_by, joins_by, words_by, indent_by, blank, mark, words}
+use Rattle.words.specs.Words.{Word, onto, plain_by, joins_by, words_by, indent_by, blank, mark, words}
 
 module _ (blanks marks : ℕ → Bool) where
   pub words_by_none : words_by blanks marks [] ≡ []
@@ -68,16 +68,34 @@ module _ (blanks marks : ℕ → Bool) where
   pub indent_within : (s : List ℕ) → indent_by blanks s ≤ length s
   indent_within s = prefix_len-le-length blanks s
 
-  -- and begins with none, both in the shape of a slice
+  -- and begins with none
+  left_begins : (s : List ℕ) → 0 < length (drop (indent_by blanks s) s) → blanks (get_or (drop (indent_by blanks s) s) 0 0) ≡ false
+  left_begins s h =
+      let some : indent_by blanks s < length s = omega (arith, length-drop (indent_by blanks s) s) in
+      let at : indent_by blanks s + 0 ≡ indent_by blanks s = omega arith in
+      ap blanks (get_or-drop (indent_by blanks s) s 0 0 ∙ ap (λ k. get_or s k 0) at) ∙ prefix_len_stops blanks s 0 some
+
+  -- both in the shape of a slice
   module _ (s : List ℕ) (n : ℕ) (e : n ≡ indent_by blanks s) where
+    left : take (length s - n) (drop n s) ≡ drop (indent_by blanks s) s
+    left = take_rest s n ∙ ap (λ k. drop k s) e
+
     pub same_past : words_by blanks marks (take (length s - n) (drop n s)) ≡ words_by blanks marks s
-    same_past = ap (words_by blanks marks) (take_rest s n ∙ ap (λ k. drop k s) e) ∙ words_past s
+    same_past = ap (words_by blanks marks) left ∙ words_past s
 
     pub past_begins : 0 < length (take (length s - n) (drop n s)) → blanks (get_or (take (length s - n) (drop n s)) 0 0) ≡ false
-    past_begins h =
-        let some : indent_by blanks s < length s = omega (arith, ap length (take_rest s n), length-drop n s, e) in
-        let at : n + 0 ≡ indent_by blanks s = omega (arith, e) in
-        ap (λ l. blanks (get_or l 0 0)) (take_rest s n) ∙ ap blanks (get_or-drop n s 0 0 ∙ ap (λ k. get_or s k 0) at) ∙ prefix_len_stops blanks s 0 some
+    past_begins h = ap (λ l. blanks (get_or l 0 0)) left ∙ left_begins s (omega (arith, ap length left))
+
+  -- the first word stands behind the first blanks
+  pub first_word : (s : List ℕ) (w : Word) (ws : List Word) → words_by blanks marks s ≡ w ∷ ws → (take (length w) (drop (indent_by blanks s) s) ≡ w) × (indent_by blanks s + length w ≤ length s)
+  first_word s w ws e =
+      let left = drop (indent_by blanks s) s in
+      let said = words_past s ∙ e in
+      let some : 0 < length left = ⊎_elim (λ h. h) (λ h. absurd (omega (arith, ap length (sym (ap (words_by blanks marks) (nil_from_length left (omega arith))) ∙ said)))) (cases_lt 0 (length left)) in
+      let n = max (prefix_len (plain_by blanks marks) left) 1 in
+      let same : take n left ≡ w = cc (sym (run_len left n some (left_begins s some) refl) ∙ said) in
+      let long : length w ≡ n = sym (ap length same) ∙ length-take-le n left (omega (arith, some, run_within left)) in
+      (ap (λ k. take k left) long ∙ same, omega (arith, long, some, run_within left, length-drop (indent_by blanks s) s, indent_within s))
 
 -- the same with no marks
 pub words_none : words [] ≡ []
