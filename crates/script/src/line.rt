@@ -22,19 +22,32 @@ pub enum Line {
     Letter(u8),
     Pair(Children),
     // with so many walk records
-    Load { root: u16, walk: u32 },
+    Load {
+        root: u16,
+        walk: u32,
+    },
     Test(Edit),
     Begin(Edit),
     Keep,
     Undo,
     Report(u16),
     // with so many walk records and placement records
-    Pack { walk: u32, places: u32 },
+    Pack {
+        walk: u32,
+        places: u32,
+    },
     // a new skyline
     Make(Kind),
     Clear,
-    Highest { from: u32, to: u32 },
-    Raise { from: u32, to: u32, height: u32 },
+    Highest {
+        from: u32,
+        to: u32,
+    },
+    Raise {
+        from: u32,
+        to: u32,
+        height: u32,
+    },
 }
 
 // A line that says none of these, and is no comment and not blank.

@@ -12,17 +12,17 @@ use rules::edits::{Edit, Side};
 use words::arguments::{Block, Byte, Number, UpTo, first, no_more, one, three, two};
 use words::split::{Spaced, next_word};
 
-// The most walk records that a script may ask for.
-const MOST_WALK: u32 = 1_000_000;
+// As many walk records as a script may ask for.
+type Walk = UpTo<1_000_000>;
 
 // An edit by its name.
 fn edit_named(name: &[u8], args: &[u8]) -> Option<Edit>
     ensures { result ≡ edit_named name.now (words args.now) }
 {
     match name {
-        b"turn" => one::<Block>(args).map(|i| Edit::Turn(i)),
+        b"turn" => one::<Block>(args).map(Edit::Turn),
         b"swap" => two::<Block, Block>(args).map(|(i, j)| Edit::Swap(i, j)),
-        b"out" => one::<Block>(args).map(|i| Edit::TakeOut(i)),
+        b"out" => one::<Block>(args).map(Edit::TakeOut),
         b"in" => three::<Block, Block, Side>(args).map(|(i, j, side)| Edit::PutIn(i, j, side)),
         b"move" => three::<Block, Block, Side>(args).map(|(i, j, side)| Edit::Move(i, j, side)),
         _ => None,
@@ -61,31 +61,35 @@ pub(crate) fn lone(line: Line, args: &[u8]) -> Option<Line>
 }
 
 // A part of the lists, by its name.
-#[tactic(auto, using(crate::proofs::Named::by_reads))]
 fn list_line(name: &[u8], args: &[u8]) -> Option<Line>
     ensures { result ≡ list_line name.now (words args.now) }
 {
     match name {
         b"block" => block_line(args),
-        b"size" => two::<Number, Number>(args).map(|(width, height)| Line::Size(Size { width, height })),
-        b"letter" => one::<Byte>(args).map(|letter| Line::Letter(letter)),
-        b"pair" => two::<Block, Block>(args).map(|(left, right)| Line::Pair(Children { left, right })),
+        b"size" => two::<Number, Number>(args).map(|(width, height)| Line::Size(Size {
+            width,
+            height,
+        })),
+        b"letter" => one::<Byte>(args).map(Line::Letter),
+        b"pair" => two::<Block, Block>(args).map(|(left, right)| Line::Pair(Children {
+            left,
+            right,
+        })),
         _ => None,
     }
 }
 
 // A call on the plan, by its name.
-#[tactic(auto, using(crate::proofs::Named::by_reads))]
 fn plan_line(name: &[u8], args: &[u8]) -> Option<Line>
     ensures { result ≡ plan_line name.now (words args.now) }
 {
     match name {
-        b"load" => two::<Block, UpTo<MOST_WALK>>(args).map(|(root, walk)| Line::Load { root, walk }),
-        b"test" => edit_of(args).map(|edit| Line::Test(edit)),
-        b"begin" => edit_of(args).map(|edit| Line::Begin(edit)),
+        b"load" => two::<Block, Walk>(args).map(|(root, walk)| Line::Load { root, walk }),
+        b"test" => edit_of(args).map(Line::Test),
+        b"begin" => edit_of(args).map(Line::Begin),
         b"keep" => lone(Line::Keep, args),
         b"undo" => lone(Line::Undo, args),
-        b"report" => one::<Block>(args).map(|i| Line::Report(i)),
+        b"report" => one::<Block>(args).map(Line::Report),
         _ => None,
     }
 }
@@ -106,11 +110,12 @@ pub fn read_line(line: &[u8]) -> Result<Option<Line>, NotUnderstood>
 {
     match next_word::<Spaced>(line) {
         None | Some(([b'#', ..], _)) => Ok(None),
-        Some((name, args)) => line_named(name, args).map(|said| Some(said)).ok_or(NotUnderstood),
+        Some((name, args)) => line_named(name, args).map(Some).ok_or(NotUnderstood),
     }
 }
 
 // Lines that show the language.
+#[tactic(auto, unfolding(words::specs::Words::words, words::specs::Numbers::spelt_after, words::specs::Lines::first_line, words::specs::Lines::behind_line))]
 pub fn readings()
     ensures { Readings }
 {}

@@ -53,7 +53,7 @@ fn settled_call(
 ) -> Result<(Desk, Answer), AllocError> {
     let mut plan = plan;
     match line {
-        Line::Load(root, walk) => {
+        Line::Load { root, walk } => {
             let mut records = vec![in heap; 0u16; walk as usize]?;
             let answer = loaded(plan.load(
                 &lists.sizes,

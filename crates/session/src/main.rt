@@ -16,7 +16,7 @@ use packs::pack_lines;
 use placed::Placed;
 use placed::rectangles::Rectangle;
 use plan::Settled;
-use script::line::{Kind, Line};
+use script::line::{Kind, Line, NotUnderstood};
 use script::read_line;
 use skyline::skylines::Skyline;
 use std::io;
@@ -40,24 +40,26 @@ fn step<S: Skyline>(
     skyline: &mut S,
     desk: Desk,
     lists: &mut Lists,
-    number: usize,
     line: Line,
 ) -> io::Result<Desk> {
     match line {
-        Line::Skipped | Line::Make(_) => {}
-        Line::Block(size, letter, children) => lists.push(size, letter, children)?,
+        Line::Make(_) => {}
+        Line::Block {
+            size,
+            letter,
+            children,
+        } => lists.push(size, letter, children)?,
         Line::Size(size) => lists.sizes.push(size)?,
         Line::Letter(letter) => lists.letters.push(letter)?,
         Line::Pair(children) => lists.children.push(children)?,
-        Line::Pack(walk, places) => pack_lines(rt, skyline, &desk, walk, places)?,
-        Line::NotUnderstood => println!(rt; "line {number}: not understood")?,
+        Line::Pack { walk, places } => pack_lines(rt, skyline, &desk, walk, places)?,
         call => {
             if let Some(answer) = skies::call(skyline, call) {
                 rt.println(answer)?;
                 return Ok(desk);
             }
             let (desk, answer) = desk.call(rt.alloc(), call, lists)?;
-            if let Line::Load(_, _) = call {
+            if let Line::Load { .. } = call {
                 lists.clear();
             }
             rt.println(answer)?;
@@ -91,19 +93,22 @@ fn lines<'a, S: Skyline>(
     while let Some((text, behind)) = next_line(rest) {
         number = number.saturating_add(1);
         rest = behind;
-        let line = read_line(text);
-        if let Line::Make(kind) = line {
-            return Ok((
-                Work {
-                    desk,
-                    lists,
-                    number,
-                    rest,
-                },
-                Some(kind),
-            ));
+        match read_line(text) {
+            Ok(Some(Line::Make(kind))) => {
+                return Ok((
+                    Work {
+                        desk,
+                        lists,
+                        number,
+                        rest,
+                    },
+                    Some(kind),
+                ));
+            }
+            Ok(Some(line)) => desk = step(rt, skyline, desk, &mut lists, line)?,
+            Ok(None) => {}
+            Err(NotUnderstood) => println!(rt; "line {number}: not understood")?,
         }
-        desk = step(rt, skyline, desk, &mut lists, number, line)?;
     }
     Ok((
         Work {
@@ -121,29 +126,29 @@ fn over<'a>(rt: &HostRuntime, kind: Kind, work: Work<'a>) -> io::Result<(Work<'a
     ensures { IfOk result (λ p. is_some p.1 ≡ true → length p.0.rest.now < length work.entry.rest.now) }
 {
     match kind {
-        Kind::Columns(c) => {
-            let mut memory = vec![in rt.alloc(); 0u32; c as usize]?;
+        Kind::Columns(columns) => {
+            let mut memory = vec![in rt.alloc(); 0u32; columns as usize]?;
             let mut skyline = Columns::new(&mut memory);
             lines(rt, &mut skyline, work)
         }
-        Kind::Steps(c, n) => {
+        Kind::Steps { columns, records } => {
             let run = Run {
                 start: 0,
                 end: 0,
                 top: 0,
             };
-            let mut memory = vec![in rt.alloc(); run; n as usize]?;
-            let mut skyline = Steps::new(&mut memory, c);
+            let mut memory = vec![in rt.alloc(); run; records as usize]?;
+            let mut skyline = Steps::new(&mut memory, columns);
             lines(rt, &mut skyline, work)
         }
-        Kind::Placed(c, n) => {
+        Kind::Placed { columns, records } => {
             let rectangle = Rectangle {
                 start: 0,
                 end: 0,
                 top: 0,
             };
-            let mut memory = vec![in rt.alloc(); rectangle; n as usize]?;
-            let mut skyline = Placed::new(&mut memory, c);
+            let mut memory = vec![in rt.alloc(); rectangle; records as usize]?;
+            let mut skyline = Placed::new(&mut memory, columns);
             lines(rt, &mut skyline, work)
         }
     }

@@ -6,7 +6,7 @@ use Rattle.script.proofs.skies.skyline_line.Goals as goal
 
 pub returns-in-skyline : goal.returns-in-skyline
 returns-in-skyline c =
-    c.make_line.ensures ∙
+    search rules ∙
     sym (is_named (λ n. skyline_line n (words c.args.args.now)) c.args.name.now (codes "skyline") (search rules) (search rules))
 
 pub returns-in-highest : goal.returns-in-highest
