@@ -11,6 +11,7 @@ pub fn is(word: &[u8], name: &[u8]) -> bool
 }
 
 // The number that decimal digits spell.
+#[tactic(auto, using(crate::proofs::Spelt::no_digit, crate::proofs::Spelt::no_more_digits))]
 fn spelt(word: &[u8]) -> Option<u32>
     requires { length word.now ≤ 9 }
     ensures { result ≡ spelt_after 0 word.now }
