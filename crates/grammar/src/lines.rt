@@ -5,12 +5,11 @@ ghost use Rattle.std.specs.Prelude.{◌≡◌};
 use crate::split::next_word;
 
 // The first line of a text without its end, and what is behind it.
+#[tactic(auto, using(crate::proofs::Cuts::ends_cr, crate::proofs::Cuts::ends_else))]
 pub fn next_line(text: &[u8]) -> Option<(&[u8], &[u8])>
     ensures { FirstLine text.now result }
 {
-    let Some((line, behind)) = words::split::next_line(text) else {
-        return None;
-    };
+    let (line, behind) = words::split::next_line(text)?;
     match line {
         [front @ .., b'\r'] if line.len() < text.len() => Some((front, behind)),
         _ => Some((line, behind)),

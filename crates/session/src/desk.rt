@@ -54,7 +54,7 @@ fn settled_call(
 ) -> Result<(Desk, Answer), AllocError> {
     let mut plan = plan;
     match line {
-        Line::Load(root, walk) => {
+        Line::Load { root, walk } => {
             let mut records = vec![in heap; 0u16; walk as usize]?;
             let given = blocks::Lists {
                 sizes: &lists.sizes,

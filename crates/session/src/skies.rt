@@ -30,8 +30,8 @@ pub fn call<S: Skyline>(skyline: &mut S, line: Line) -> Option<Answer> {
             skyline.clear();
             Some(told(skyline))
         }
-        Line::Highest(a, b) => Some(highest(skyline, a, b)),
-        Line::Raise(a, b, h) => Some(raised(skyline, a, b, h)),
+        Line::Highest { from, to } => Some(highest(skyline, from, to)),
+        Line::Raise { from, to, height } => Some(raised(skyline, from, to, height)),
         _ => None,
     }
 }
