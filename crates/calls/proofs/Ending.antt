@@ -1,12 +1,12 @@
 -- The packing behind a list of calls: no call alters the columns and the raises of the skyline, so it is refused or accepted as it
 -- would have been at first.
-use Rattle.std.proofs.Common.{◌≡◌, ℕ, List, [], ◌∷◌, length, Some, None, Ok, Err, Option, Result, refl, ap, ◌∙◌, arith}
+use Rattle.std.proofs.Common.{◌≡◌, ℕ, List, [], ◌∷◌, length, Some, None, Ok, Err, Option, Result, sym, refl, ap, ◌∙◌, subst, ◌≢◌, arith}
 use Rattle.rules.specs.declared.placements.Placement.{Placement}
 use Rattle.rules.specs.declared.refusals.Refusal.{Refusal}
 use Rattle.rules.specs.Plans.{Plan}
 use Rattle.rules.specs.Skylines.{Sky}
 use Rattle.rules.specs.Refusals.{answered}
-use Rattle.rules.specs.Book.{Call, load, test, begin, keep, undo, pack, Book, new_book, book_plan, fed, book, settled}
+use Rattle.rules.specs.Book.{Call, load, test, begin, keep, undo, pack, Book, new_book, book_plan, fed, book, settled, out_of_turn, state_after}
 use Rattle.promises.specs.Packs as packs
 use Rattle.packer.specs.declared.spots.Extent.{Extent}
 use Rattle.packer.specs.declared.spots.Spot.{Spot}
@@ -14,7 +14,7 @@ use Rattle.packer.specs.Gives.{extent_of, PackGives}
 use Rattle.promises.specs.Promise.{Promise}
 use Rattle.calls.specs.declared.call.Stop.{Stop}
 use Rattle.calls.specs.declared.call.Stop.TheVariants.{OutOfTurn, Refused}
-use Rattle.calls.specs.Turns.{first_out}
+use Rattle.calls.specs.Turns.{first_out, turned}
 use Rattle.calls.specs.Runs.{Memory, PackLeaves, CallLeaves, Performed, ended, PackAfter}
 use Rattle.calls.proofs.Turning.{settled_open, in_turn, not_in_turn}
 use Rattle.calls.proofs.Running.{performed_snoc}
@@ -67,14 +67,25 @@ accepted_both (Err y) x e = let z : ◌≡◌ {A = ℕ} 0 1 = cc in absurd (omeg
 not_found : {o : Option ℕ} {k : ℕ} → o ≡ None → o ≡ Some k → ⊥
 not_found n e = let z : ◌≡◌ {A = ℕ} 0 1 = cc in omega arith
 
+-- what the test of the turns found
+turned_ok : (o : Option ℕ) → Ok tt ≡ turned o → o ≡ None
+turned_ok None h = refl
+turned_ok (Some k) h = absurd cc
+
+pub in_turn_none : (cs : List Call) → Ok tt ≡ turned (first_out settled 0 cs) → first_out settled 0 cs ≡ None
+in_turn_none cs h = turned_ok (first_out settled 0 cs) h
+
+pub stays_in_turn : (cs : List Call) → Ok tt ≡ turned (first_out settled 0 cs) → state_after cs ≢ out_of_turn
+stays_in_turn cs h = in_turn settled 0 cs settled_open (in_turn_none cs h)
+
 -- the calls are performed, then the plan in their book is packed
 module _ {S : Type 0} (meaning : S → Sky) (cs : List Call) (first before after : Memory S) where
   pub in_turn_gives : first_out settled 0 cs ≡ None → Performed meaning new_book cs first before
       → length before.spots ≡ length first.spots → length before.places ≡ length first.places
       → (r : Result Extent Refusal) → PackLeaves meaning (book_plan (book cs)) before after r
       → ((x : Extent) → r ≡ Ok x → Promise cs x.width x.height after.places (meaning after.skyline))
-      → PackAfter meaning cs first after (as_stop r)
-  in_turn_gives none done spots places r leaves promise =
+      → {out : Result Extent Stop} → out ≡ as_stop r → PackAfter meaning cs first after out
+  in_turn_gives none done spots places r leaves promise {out} is =
       let p = book_plan (book cs) in
       let before_by = packs.pack_refusal p (meaning before.skyline) (length before.spots) (length before.places) in
       let first_by = packs.pack_refusal p (meaning first.skyline) (length first.spots) (length first.places) in
@@ -85,18 +96,23 @@ module _ {S : Type 0} (meaning : S → Sky) (cs : List Call) (first before after
         refused_out_of_turn = λ k e. absurd (not_found none e);
         only_out_of_turn = λ k e. absurd (not_found none e);
         in_turn = λ e. in_turn settled 0 cs settled_open e;
-        answer = λ e. ap as_stop leaves.gives.answer ∙ ended_answered before_by (extent_of p) ∙ ap (λ o. ended o (extent_of p)) same;
+        answer = λ e. is ∙ ap as_stop leaves.gives.answer ∙ ended_answered before_by (extent_of p) ∙ ap (λ o. ended o (extent_of p)) same;
         performed = λ e. performed_snoc meaning new_book cs pack first before after done (r, leaves);
-        promise = λ x e. promise x (accepted_both r x e);
+        promise = λ x e. promise x (accepted_both r x (sym is ∙ e));
       }
 
 -- nothing is performed
-pub out_of_turn_gives : {S : Type 0} (meaning : S → Sky) (cs : List Call) (first : Memory S) (k : ℕ) → first_out settled 0 cs ≡ Some k → PackAfter meaning cs first first (Err (OutOfTurn k))
-out_of_turn_gives meaning cs first k found = record {
-  refused_out_of_turn = λ j e. ((let z : k ≡ j = cc in ap (λ i. Err (OutOfTurn i)) z), refl);
-  only_out_of_turn = λ j e. not_in_turn settled 0 cs j e;
-  in_turn = λ none. absurd (not_found none found);
-  answer = λ none. absurd (not_found none found);
-  performed = λ none. absurd (not_found none found);
-  promise = λ x e. let z : ◌≡◌ {A = ℕ} 0 1 = cc in absurd (omega arith);
-}
+module _ {S : Type 0} (meaning : S → Sky) (cs : List Call) (first : Memory S) where
+  stopped : (o : Option ℕ) → first_out settled 0 cs ≡ o → (s : Stop) → Err s ≡ turned o → PackAfter meaning cs first first (Err s)
+  stopped None found s h = absurd cc
+  stopped (Some k) found s h = record {
+    refused_out_of_turn = λ j e. ((let z : Err s ≡ Err (OutOfTurn j) = cc in z), refl);
+    only_out_of_turn = λ j e. not_in_turn settled 0 cs j e;
+    in_turn = λ none. absurd (not_found none found);
+    answer = λ none. absurd (not_found none found);
+    performed = λ none. absurd (not_found none found);
+    promise = λ x e. absurd cc;
+  }
+
+  pub out_of_turn_gives : (s : Stop) → Err s ≡ turned (first_out settled 0 cs) → {out : Result Extent Stop} → out ≡ Err s → PackAfter meaning cs first first out
+  out_of_turn_gives s h is = subst (PackAfter meaning cs first first) (sym is) (stopped (first_out settled 0 cs) refl s h)

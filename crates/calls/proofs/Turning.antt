@@ -1,8 +1,10 @@
 -- The first call out of turn, found call by call, and what it says of the state behind the list.
-use Rattle.std.proofs.Common.{◌≡◌, ℕ, ◌+◌, ◌<◌, ◌≤◌, List, [], ◌∷◌, map, length, get_or, drop, Some, None, Option, sym, refl, ap, ◌∙◌, arith}
+use Rattle.std.proofs.Common.{◌≡◌, ℕ, ◌+◌, ◌<◌, ◌≤◌, List, [], ◌∷◌, map, length, get_or, drop, Some, None, Ok, Err, Option, sym, refl, ap, ◌∙◌, arith}
 use Rattle.std.proofs.lemmas.List.{at_drop_more, at_drop_all}
+use Rattle.std.specs.Option.{ok_or}
 use Rattle.rules.specs.Book.{Call, State, settled, tried, out_of_turn, next, state_from}
 use Rattle.theorems.proofs.Books.{out_of_turn_stays}
+use Rattle.calls.specs.declared.call.Stop.{Stop}
 use Rattle.calls.specs.declared.turns.Turn.{Turn}
 use Rattle.calls.specs.declared.turns.Turn.TheVariants.{Settled, Tried}
 use Rattle.calls.specs.Turns.{out_at, first_out}
@@ -29,6 +31,15 @@ module _ {A : Type 0} (said : A → Call) (calls : List A) (i : ℕ) (d : A) (h 
   pub first_out_later : (t : Turn) → as_state (Some t) ≡ next s (said (get_or calls i d))
       → first_out (as_state (Some t)) (i + 1) (map said (drop (i + 1) calls)) ≡ first_out s i (map said (drop i calls))
   first_out_later t e = sym (passed t i _) ∙ ap (λ u. out_at u i (first_out u (i + 1) (map said (drop (i + 1) calls)))) e ∙ sym first_out_at
+
+-- a state, or none, told as an answer
+pub was_some : (o : Option Turn) (e : Stop) (t : Turn) → Ok t ≡ ok_or o e → o ≡ Some t
+was_some None e t h = cc
+was_some (Some u) e t h = cc
+
+pub was_none : (o : Option Turn) (e s : Stop) → Err s ≡ ok_or o e → (o ≡ None) × (s ≡ e)
+was_none None e s h = (refl, cc)
+was_none (Some u) e s h = absurd cc
 
 pub first_out_none : {A : Type 0} (said : A → Call) (calls : List A) (i : ℕ) (s : State) → length calls ≤ i → None ≡ first_out s i (map said (drop i calls))
 first_out_none said calls i s h = sym (at_drop_all (λ l. first_out s i (map said l)) calls i h)

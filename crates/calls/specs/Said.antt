@@ -11,7 +11,7 @@ use Rattle.calls.specs.declared.turns.Turn.TheVariants.{Settled, Tried}
 
 -- the arguments of a load where so many walk records are lent: it uses as many as it names, or all
 abbrev pub load_given : ℕ → Loading → Given
-load_given records l = given l.sizes.now l.letters.now l.children.now l.root (min l.walk records)
+load_given records l = given l.lists (min l.walk records)
 
 -- a call with its arguments, as it goes into a book
 abbrev pub said : ℕ → Call → book.Call

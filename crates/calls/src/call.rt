@@ -1,15 +1,12 @@
 // Calls on a plan, each with its arguments, and why a list of them is refused.
-use rules::blocks::{Children, Size};
+use rules::blocks::Lists;
 use rules::edits::Edit;
 use rules::refusals::Refusal;
 
 // The lists and the root of a load, and how many walk records it may use.
 #[derive(Clone, Copy)]
 pub struct Loading<'a> {
-    pub sizes: &'a [Size],
-    pub letters: &'a [u8],
-    pub children: &'a [Children],
-    pub root: u16,
+    pub lists: Lists<'a>,
     pub walk: usize,
 }
 
@@ -30,4 +27,15 @@ pub enum Stop {
     OutOfTurn(usize),
     // the packing is refused
     Refused(Refusal),
+}
+
+impl From<Refusal> for Stop {
+    ghost use Rattle.std.specs.Prelude.{◌≡◌};
+    ghost use Rattle.calls.specs.declared.call.Stop.TheVariants.{Refused};
+
+    ghost from_gives = { λ refusal stop. stop ≡ Refused refusal };
+
+    fn from(refusal: Refusal) -> Stop {
+        Stop::Refused(refusal)
+    }
 }

@@ -1,8 +1,7 @@
 #![tactic(auto)]
 // A list of calls on a plan, performed from a new plan on, and then a packing.
 pub mod call;
-mod desk;
-mod hand;
+pub mod desk;
 mod performing;
 mod tells;
 mod turns;

@@ -2,7 +2,7 @@
 ghost use Rattle.std.specs.Prelude.{◌≡◌, ℕ, min, ◌≢◌, List, [], ◌∷◌, ◌++◌, map, length, Some, None};
 ghost use Rattle.rules.specs.declared.refusals.Refusal.{Refusal};
 ghost use Rattle.rules.specs.Loads.{room_refusal};
-ghost use Rattle.rules.specs.Book.{Call as Said, load, new_book, book, book_plan, out_of_turn, state_after};
+ghost use Rattle.rules.specs.Book.{Call as Said, load as loads, new_book, book, book_plan, out_of_turn, state_after};
 ghost use Rattle.plan.specs.Calls.{LoadGives};
 ghost use Rattle.plan.specs.Meaning.{SettledBy, TriedBy};
 ghost use Rattle.packer.specs.Gives.{PackGives};
@@ -13,48 +13,46 @@ ghost use Rattle.calls.specs.Runs.{memory, WalkLeft, CallLeaves, Performed, Pack
 
 use crate::call::{Call, Loading, Stop};
 use crate::desk::Desk;
-use crate::hand::pack_in_hand;
-use crate::turns::first_out_of_turn;
+use crate::turns::in_turn;
 use packer::{Extent, Spot};
 use plan::{Settled, Tried};
-use rules::blocks::NONE;
+use rules::blocks::{Lists, NONE};
 use rules::placements::Placement;
 use rules::refusals::Refusal;
 use skyline::skylines::Skyline;
 
 // The plan made new again.
-fn renewed(plan: Settled) -> Settled
+fn renewed(mut plan: Settled) -> Settled
     ensures { SettledBy [] result }
 {
-    let mut plan = plan;
-    let _ = plan.load(&[], &[], &[], NONE, &mut []);
+    let no_blocks = Lists {
+        sizes: &[],
+        letters: &[],
+        children: &[],
+        root: NONE,
+    };
+    let _ = plan.load(no_blocks, &mut []);
     plan
 }
 
 // Performs a load, with the first walk records lent, as many as it names or all.
-fn load_list(plan: &mut Settled, list: &Loading, walk: &mut [u16])
-    ensures told { (cs : List Said) → SettledBy cs plan.old → SettledBy (cs ++ (load (load_given (length walk.old) list.now) ∷ [])) plan.new }
-    ensures walk { (reason : Refusal) → room_refusal (load_given (length walk.old) list.now) None ≡ Some reason → walk.new ≡ walk.old }
+fn load(plan: &mut Settled, loading: &Loading, walk: &mut [u16])
+    ensures told { (cs : List Said) → SettledBy cs plan.old → SettledBy (cs ++ (loads (load_given (length walk.old) loading.now) ∷ [])) plan.new }
+    ensures walk { (reason : Refusal) → room_refusal (load_given (length walk.old) loading.now) None ≡ Some reason → walk.new ≡ walk.old }
 {
-    let records = list.walk.min(walk.len());
-    let _ = plan.load(
-        list.sizes,
-        list.letters,
-        list.children,
-        list.root,
-        &mut walk[..records],
-    );
+    let Loading { lists, walk: most } = *loading;
+    let records = most.min(walk.len());
+    let _ = plan.load(lists, &mut walk[..records]);
 }
 
 // A call on a settled plan, but for a packing; keep and undo are out of turn.
-fn settled_step(plan: Settled, call: &Call, walk: &mut [u16]) -> Desk
+fn settled_step(mut plan: Settled, call: &Call, walk: &mut [u16]) -> Desk
     ensures told { (cs : List Said) → SettledBy cs plan → state_after (cs ++ (said (length walk.old) call.now ∷ [])) ≢ out_of_turn → DeskBy (cs ++ (said (length walk.old) call.now ∷ [])) result }
     ensures walk { WalkLeft (said (length walk.old) call.now) walk.old walk.new }
 {
     match call {
-        Call::Load(list) => {
-            let mut plan = plan;
-            load_list(&mut plan, list, walk);
+        Call::Load(loading) => {
+            load(&mut plan, loading, walk);
             Desk::Settled(plan)
         }
         Call::Test(edit) => {
@@ -90,12 +88,12 @@ fn step<S: Skyline>(
     ensures leaves { (cs : List Said) → DeskBy cs desk → CallLeaves S.Skyline.meaning (book_plan (book cs)) (said (length walk.old) call.now) (memory skyline.old walk.old spots.old places.old) (memory skyline.new walk.new spots.new places.new) }
 {
     if let Call::Pack = call {
-        let _ = pack_in_hand(&desk, skyline, spots, places);
+        let _ = desk.pack(skyline, spots, places);
         return desk;
     }
-    match desk {
-        Desk::Settled(plan) => settled_step(plan, call, walk),
-        Desk::Tried(trial) => tried_step(trial, call),
+    match desk.into_settled() {
+        Ok(plan) => settled_step(plan, call, walk),
+        Err(trial) => tried_step(trial, call),
     }
 }
 
@@ -122,6 +120,7 @@ fn perform<S: Skyline>(
 // Performs a list of calls from a new plan on, and packs the plan that it leads to. The plan given is any settled one, whose
 // memory is used. A load of the list uses the first walk records, a packing the spots and the placement records. A list out of
 // turn is refused, and nothing is altered.
+// The four parts of the memory stay apart: in a struct each would owe a clause more, that it is still the one lent.
 pub fn pack_after<S: Skyline>(
     plan: Settled,
     calls: &[Call],
@@ -132,14 +131,8 @@ pub fn pack_after<S: Skyline>(
 ) -> Result<Extent, Stop>
     ensures { PackAfter S.Skyline.meaning (map (said (length walk.old)) calls.now) (memory skyline.old walk.old spots.old places.old) (memory skyline.new walk.new spots.new places.new) result }
 {
-    if let Some(call) = first_out_of_turn(calls) {
-        return Err(Stop::OutOfTurn(call));
-    }
+    in_turn(calls)?;
     let desk = perform(plan, calls, skyline, walk, spots, places);
-    let packed = pack_in_hand(&desk, skyline, spots, places);
-    desk.close();
-    match packed {
-        Ok(extent) => Ok(extent),
-        Err(refusal) => Err(Stop::Refused(refusal)),
-    }
+    let extent = desk.pack(skyline, spots, places)?;
+    Ok(extent)
 }

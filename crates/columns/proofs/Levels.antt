@@ -1,27 +1,24 @@
--- Numbers that a loop levels, and the largest of those that one has passed.
-use Rattle.std.proofs.Common.{◌≡◌, ℕ, ◌+◌, ◌<◌, ◌≤◌, max, ◌≢◌, List, length, get_or, set, ap, ◌∙◌, inl, inr, ⊎_elim, arith, length-set, get_or-set_other, get_or-set_same}
-use Rattle.std.proofs.lemmas.Bool.{cases_eq, cases_lt}
-use Rattle.rules.specs.Skylines.{Sky, NoneAbove, Largest}
-use Rattle.columns.specs.Heights.{Levelled}
+-- The largest height over a part of the numbers.
+use Rattle.std.proofs.Common.{◌≡◌, ℕ, ◌+◌, ◌-◌, ◌<◌, ◌≤◌, List, length, get_or, sym, ap, ◌∙◌, arith}
+use Rattle.std.specs.Prelude.{slice_index, EachIndex}
+use Rattle.std.specs.List.{between}
+use Rattle.std.proofs.lemmas.List.Edits.{length-between, get_or-between}
+use Rattle.rules.specs.Skylines.{Sky, Largest}
 
--- one more number is levelled
-pub level_more : (xs ys : List ℕ) (a i h : ℕ) → i < length xs → Levelled xs ys a i h → a ≤ i → Levelled xs (set ys i h) a (i + 1) h
-level_more xs ys a i h within v from =
-    let here : get_or (set ys i h) i 0 ≡ h = get_or-set_same ys i h 0 (omega (arith, v.size)) in
-    let other : (c : ℕ) → c ≢ i → get_or (set ys i h) c 0 ≡ get_or ys c 0 = λ c ne. get_or-set_other ys i c h 0 ne in
+part_at : (xs : List ℕ) (a b c : ℕ) → a ≤ c → c < b → slice_index (between a b xs) (c - a) ≡ slice_index xs c
+part_at xs a b c l u = let i : a + (c - a) ≡ c = omega arith in get_or-between xs a b (c - a) 0 (omega arith) ∙ ap (λ k. get_or xs k 0) i
+
+-- the largest of the numbers from a to b - 1 is the largest height of those columns
+pub largest_part : (s : Sky) (xs : List ℕ) (a b m : ℕ) → a < b → b ≤ length xs → ((c : ℕ) → s.height c ≡ slice_index xs c)
+    → EachIndex (between a b xs) (λ k. slice_index (between a b xs) k ≤ m)
+    → (k : ℕ) × (k < length (between a b xs)) × (slice_index (between a b xs) k ≡ m)
+    → Largest s a b m
+largest_part s xs a b m some within heights bounds met =
+    let size = length-between xs a b within in
     record {
-      size = length-set ys i h ∙ v.size;
-      inside = λ c l u. ⊎_elim (λ e. ap (λ k. get_or (set ys i h) k 0) e ∙ here) (λ ne. other c ne ∙ v.inside c l (omega arith)) (cases_eq c i);
-      before = λ c l. other c (omega arith) ∙ v.before c l;
-      behind = λ c l. other c (omega arith) ∙ v.behind c (omega arith);
+      bounds = λ c l u. omega (arith, heights c, part_at xs a b c l u, bounds (c - a) (omega arith));
+      met_at = a + met.0;
+      from_a = omega arith;
+      to_b = omega (arith, met.1);
+      is_met = heights (a + met.0) ∙ sym (get_or-between xs a b met.0 0 (omega (arith, met.1))) ∙ met.2;
     }
-
--- the largest height of one more column
-pub largest_more : (s : Sky) (a i m n : ℕ) → Largest s a i m → a ≤ i → n ≡ max m (s.height i) → Largest s a (i + 1) n
-largest_more s a i m n top from is =
-    let bounds : NoneAbove s a (i + 1) n
-    = λ c l u. ⊎_elim (λ e. omega (arith, ap s.height e)) (λ ne. omega (arith, top.bounds c l (omega arith))) (cases_eq c i) in
-    elim (cases_lt m (s.height i)) [
-      | inl less ↦ record { bounds = bounds; met_at = i; from_a = from; to_b = omega arith; is_met = omega arith }
-      | inr more ↦ record { bounds = bounds; met_at = top.met_at; from_a = top.from_a; to_b = omega (arith, top.to_b); is_met = omega (arith, top.is_met) }
-    ]

@@ -1,12 +1,13 @@
 #![tactic(auto)]
 // A skyline that holds one number a column, in memory that the caller lends.
-ghost use Rattle.std.specs.Prelude.{◌≡◌, ◌<◌, ◌≤◌, min, length};
+ghost use Rattle.std.specs.Prelude.{◌≡◌, ℕ, ◌<◌, ◌≤◌, min, length, slice_index, EachIndex};
 ghost use Rattle.rules.specs.Skylines.{Largest, Fresh, Cleared, Raise};
 ghost use Rattle.columns.specs.Heights.{lent, loan_of, columns_sky, raises_over, Levelled, KeptBehind};
 
 use rules::refusals::Refusal;
 use skyline::checks::{test_raise, test_span};
 use skyline::skylines::{MOST_COLUMNS, MOST_RAISES, Skyline};
+use skyline::spans::Span;
 
 // The numbers behind the first 67,108,864 stay, and the memory is always the one lent: the clauses `behind` and `loan` tell a
 // caller so, who has the memory back when the skyline ends.
@@ -21,9 +22,15 @@ fn level(heights: &mut [u32], a: usize, b: usize, h: u32)
     requires { (a ≤ b) × (b ≤ length heights.old) }
     ensures { Levelled heights.old heights.new a b h }
 {
-    for i in a..b {
-        heights[i] = h;
-    }
+    heights[a..b].fill(h);
+}
+
+// The largest of the numbers, or 0 of none.
+fn largest(heights: &[u32]) -> u32
+    ensures bounds { EachIndex heights.now (λ k. slice_index heights.now k ≤ result) }
+    ensures met { 0 < length heights.now → ((k : ℕ) × (k < length heights.now) × (slice_index heights.now k ≡ result)) }
+{
+    heights.iter().copied().max().unwrap_or(0)
 }
 
 impl<'a> Columns<'a> {
@@ -41,16 +48,12 @@ impl<'a> Columns<'a> {
         made
     }
 
-    // The largest height of columns a to b - 1.
-    fn tallest(&self, a: usize, b: usize) -> u32
-        requires { (a < b) × (b ≤ length (lent self.now)) }
-        ensures { Largest (columns_sky self.now) a b result }
+    // The largest height of a span's columns.
+    fn tallest(&self, span: Span) -> u32
+        requires { span.end ≤ length (lent self.now) }
+        ensures { Largest (columns_sky self.now) span.start span.end result }
     {
-        let mut tallest = self.heights[a];
-        for i in a + 1..b {
-            tallest = tallest.max(self.heights[i]);
-        }
-        tallest
+        largest(&self.heights[span.start as usize..span.end as usize])
     }
 }
 
@@ -62,7 +65,7 @@ impl Skyline for Columns<'_> {
     }
 
     fn raises(&self) -> u32 {
-        if self.heights.len() == 0 {
+        if self.heights.is_empty() {
             0
         } else {
             MOST_RAISES
@@ -84,8 +87,8 @@ impl Skyline for Columns<'_> {
     }
 
     fn highest(&self, a: u32, b: u32) -> Result<u32, Refusal> {
-        test_span(a, b, self.columns())?;
-        Ok(self.tallest(a as usize, b as usize))
+        let span = test_span(a, b, self.columns())?;
+        Ok(self.tallest(span))
     }
 
     fn raise(&mut self, a: u32, b: u32, h: u32) -> Result<(), Refusal>
@@ -93,8 +96,8 @@ impl Skyline for Columns<'_> {
         ensures behind { KeptBehind (lent self.old) (lent self.new) }
         ensures loan { loan_of self.new ≡ loan_of self.old }
     {
-        let highest = self.highest(a, b)?;
-        test_raise(highest, h, self.left)?;
+        let span = test_span(a, b, self.columns())?;
+        test_raise(self.tallest(span), h, self.left)?;
         level(self.heights, a as usize, b as usize, h);
         self.left -= 1;
         Ok(())

@@ -4,3 +4,4 @@ pub mod Settling
 pub mod Standing
 pub mod Edges
 pub mod Branches
+pub mod Bounds

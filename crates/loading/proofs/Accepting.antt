@@ -1,5 +1,5 @@
 -- What a load's answer tells of the blocks.
-use Rattle.std.proofs.Common.{◌≡◌, ℕ, ◌<◌, ◌≤◌, true, false, cond, ltb, ◌≢◌, List, length, get_or, Some, None, Option, sym, refl, ap, ◌∙◌, inl, inr, arith, lit<}
+use Rattle.std.proofs.Common.{◌≡◌, ℕ, ◌<◌, ◌≤◌, true, false, cond, ltb, ◌≢◌, List, length, get_or, Some, None, Ok, Err, Option, Result, sym, refl, ap, ◌∙◌, inl, inr, arith, lit<}
 use Rattle.std.proofs.lemmas.Bool.{cases_lt, ltb-true, ltb-false, lt-ltb, le-ltb, eqb-true, eqb-false, not-false, cond-true, cond-false}
 use Rattle.rules.specs.declared.blocks.Children.{Children}
 use Rattle.rules.specs.declared.refusals.Refusal.{Refusal}
@@ -14,7 +14,7 @@ use Rattle.loading.specs.Told.{Told}
 use Rattle.loading.proofs.Firsts.{none_found, found_at}
 use Rattle.loading.proofs.Trees.{linked, rooted, treed}
 use Rattle.loading.proofs.Paths.{path_stands, standing_path, path_named, count_past}
-use Rattle.loading.proofs.Refusing.{stage, past_when, past_found, past_all}
+use Rattle.loading.proofs.Refusing.{stage, Answers, answered_ok, answered_err, past_when, past_found, past_all}
 
 -- what is known once no block is named twice
 record Singly (cs : List Children) (root : ℕ) : Type 0 where
@@ -80,12 +80,13 @@ accepted_tree g e =
       ];
     }
 
-pub told : (g : Given) (r : Option Refusal) → r ≡ load_refusal g → Told g.children g.root r
-told g r is = record { accepted = accepted; child_twice = child_twice; not_reached = not_reached }
+-- what the answer tells, by the first refusal
+pub told : (g : Given) (r : Result (Unit {0}) Refusal) → Answers r (load_refusal g) → Told g.children g.root r
+told g r e = record { accepted = accepted; child_twice = child_twice; not_reached = not_reached }
   where
-    accepted : r ≡ None → (k : ℕ) → k < length g.children → Path g.children g.root k × (named g.children g.root k ≡ 1) × (count k (tree_of g.children g.root) ≡ 1)
-    accepted none k h =
-        let s = singly g None (lit< tt) (lit< tt) (sym is ∙ none) in
+    accepted : r ≡ Ok tt → (k : ℕ) → k < length g.children → Path g.children g.root k × (named g.children g.root k ≡ 1) × (count k (tree_of g.children g.root) ≡ 1)
+    accepted ok k h =
+        let s = singly g None (lit< tt) (lit< tt) (answered_ok _ _ (sym e ∙ ok)) in
         let u = past_found _ Unreached None None (λ j q. omega arith) s.1 in
         let once = reached_once g.children g.root k s.0 (none_found (unreached g.children g.root) _ u.0 k h) in
         (once.1, omega (arith, s.0.named_once k h, path_named g.children s.0.few g.root k once.1), once.0)
@@ -93,18 +94,18 @@ told g r is = record { accepted = accepted; child_twice = child_twice; not_reach
     not_later : (k : ℕ) → when_found (first (unreached g.children g.root) 0 (length g.children)) Unreached None ≢ Some (ChildTwice k)
     not_later k q = omega (arith, ap stage (past_found _ Unreached None (Some (ChildTwice k)) (λ j z. omega arith) q).1)
 
-    child_twice : (k : ℕ) → r ≡ Some (ChildTwice k) → (1 < named g.children g.root k) × ((j : ℕ) → j < k → named g.children g.root j ≤ 1)
+    child_twice : (k : ℕ) → r ≡ Err (ChildTwice k) → (1 < named g.children g.root k) × ((j : ℕ) → j < k → named g.children g.root j ≤ 1)
     child_twice k twice =
-        let p = past_all g (Some (ChildTwice k)) (lit< tt) (lit< tt) (sym is ∙ twice) in
+        let p = past_all g (Some (ChildTwice k)) (lit< tt) (lit< tt) (answered_err _ _ _ (sym e ∙ twice)) in
         let a = past_when (wrong_root (length g.children) g.root) WrongRoot _ (Some (ChildTwice k)) (λ q. omega arith) p.2 in
         let b = found_is _ ChildTwice _ (Some (ChildTwice k)) (not_later k) a.1 in
         let same : b.0 ≡ k = cc b.2 in
         let at = found_at (named_twice g.children g.root) (length g.children) k (b.1 ∙ ap Some same) in
         (ltb-true 1 _ at.1, λ j h. ltb-false 1 _ (at.2 j h))
 
-    not_reached : (k : ℕ) → r ≡ Some (Unreached k) → (Path g.children g.root k → ⊥) × ((j : ℕ) → j < k → Path g.children g.root j)
+    not_reached : (k : ℕ) → r ≡ Err (Unreached k) → (Path g.children g.root k → ⊥) × ((j : ℕ) → j < k → Path g.children g.root j)
     not_reached k missed =
-        let s = singly g (Some (Unreached k)) (lit< tt) (lit< tt) (sym is ∙ missed) in
+        let s = singly g (Some (Unreached k)) (lit< tt) (lit< tt) (answered_err _ _ _ (sym e ∙ missed)) in
         let b = found_is _ Unreached None (Some (Unreached k)) (λ q. omega (arith, ap stage q)) s.1 in
         let same : b.0 ≡ k = cc b.2 in
         let at = found_at (unreached g.children g.root) (length g.children) k (b.1 ∙ ap Some same) in (

@@ -1,5 +1,7 @@
 -- A search from 0 up that stops at the first number that a test finds.
-use Rattle.std.proofs.Common.{◌≡◌, ℕ, zero, suc, ◌+◌, ◌-◌, ◌<◌, ◌≤◌, Bool, true, false, cond, Some, None, sym, ap, ◌∙◌, subst, inl, inr, arith}
+use Rattle.std.proofs.Common.{◌≡◌, ℕ, zero, suc, ◌+◌, ◌-◌, ◌<◌, ◌≤◌, Bool, true, false, cond, List, [], ◌∷◌, length, get_or, Some, None, sym, refl, ap, ◌∙◌, subst, inl, inr, arith}
+use Rattle.std.specs.List.{position, position_from}
+use Rattle.std.proofs.lemmas.Iterator.Adapters.{position_from-zero}
 use Rattle.std.proofs.lemmas.Bool.{cond-true, cond-false, cases_Bool, cases_eq}
 use Rattle.rules.specs.Loads.{first}
 
@@ -61,3 +63,20 @@ found_at f n k e = let a = from 0 n e in (omega (arith, a.0), a.1, λ j h. a.2 j
             ],
           )
     ]
+
+pub found_below : (f : ℕ → Bool) (n k : ℕ) → first f 0 n ≡ Some k → k < n
+found_below f n k e = (found_at f n k e).0
+
+-- the search of a list from its front on is the search of its places
+module _ {A : Type 0} (f : ℕ → Bool) (p : A → Bool) (d : A) where
+  from_place : (xs : List A) (i : ℕ) → ((k : ℕ) → k < length xs → p (get_or xs k d) ≡ f (i + k)) → position_from p i xs ≡ first f i (length xs)
+  unfolding first
+  from_place [] i h = refl
+  from_place (x ∷ xs) i h =
+      let here : i + 0 ≡ i = omega arith in
+      let after : (k : ℕ) → i + suc k ≡ (i + 1) + k = λ k. omega arith in
+      ap (λ b. cond b (Some i) (position_from p (i + 1) xs)) (h 0 (omega arith) ∙ ap f here)
+      ∙ ap (cond (f i) (Some i)) (from_place xs (i + 1) (λ k l. h (suc k) (omega arith) ∙ ap f (after k)))
+
+  pub first_place : (xs : List A) → ((k : ℕ) → k < length xs → p (get_or xs k d) ≡ f k) → position p xs ≡ first f 0 (length xs)
+  first_place xs h = position_from-zero p xs ∙ from_place xs 0 (λ k l. let e : 0 + k ≡ k = omega arith in h k l ∙ ap f (sym e))

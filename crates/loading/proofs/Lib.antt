@@ -6,3 +6,5 @@ pub mod Trees
 pub mod Paths
 pub mod Refusing
 pub mod Accepting
+pub mod Spelling
+pub mod Places

@@ -1,9 +1,9 @@
 -- The tests of a load one after another: an answer that is not a test's own refusal comes from behind the test.
-use Rattle.std.proofs.Common.{◌≡◌, ℕ, ◌<◌, ◌≤◌, Bool, true, false, not, ◌&&◌, eqb, ltb, ◌≢◌, length, Some, None, Option, sym, refl, ap, ◌∙◌, arith}
+use Rattle.std.proofs.Common.{◌≡◌, ℕ, ◌<◌, ◌≤◌, Bool, true, false, not, ◌&&◌, eqb, ltb, ◌≢◌, length, Some, None, Ok, Err, Option, Result, sym, refl, ap, ◌∙◌, arith}
 use Rattle.std.proofs.lemmas.Bool.{ltb-false, eqb-true, not-false, and_parts}
 use Rattle.rules.specs.declared.refusals.Refusal.{Refusal}
 use Rattle.rules.specs.declared.refusals.Refusal.TheVariants.{TooManyBlocks, LengthsDiffer, MemoryTooShort, SideOutOfRange, UnknownLetter, WrongChild}
-use Rattle.rules.specs.Refusals.{number, when}
+use Rattle.rules.specs.Refusals.{number, when, answered}
 use Rattle.rules.specs.Loads.{Given, first, when_found, wrong_size, wrong_letter, wrong_children, room_refusal, block_refusal, tree_refusal, load_refusal}
 
 -- the answer's number; of a load that is accepted the next after the last test
@@ -69,6 +69,19 @@ past_all g x lo hi e =
     let b = past_blocks g _ x lo a.1 in
     (a.0, b.0, b.1)
 
+-- an answer tells whether there is a refusal, and which
+pub answered_ok : {X : Type 0} (o : Option Refusal) (x : X) → answered o x ≡ Ok x → o ≡ None
+answered_ok None x e = refl
+answered_ok (Some r) x e = absurd (let z : ◌≡◌ {A = ℕ} 0 1 = cc in omega arith)
+
+pub answered_err : {X : Type 0} (o : Option Refusal) (x : X) (r : Refusal) → answered o x ≡ Err r → o ≡ Some r
+answered_err None x r e = absurd (let z : ◌≡◌ {A = ℕ} 0 1 = cc in omega arith)
+answered_err (Some s) x r e = cc
+
+-- the answer of tests: the refusal of one, or that all are passed
+abbrev pub Answers : Result (Unit {0}) Refusal → Option Refusal → Type 0
+Answers r o = r ≡ answered o (tt {0})
+
 -- the refusal, if there is one, else what comes after
 abbrev or_else : Option Refusal → Option Refusal → Option Refusal
 or_else (Some r) after = Some r
@@ -98,15 +111,19 @@ load_else g =
     (searches_else (first (wrong_size g.sizes) 0 n) (first (wrong_letter g.letters) 0 (length g.letters)) (first (wrong_children g.children) 0 (length g.children))
     SideOutOfRange UnknownLetter WrongChild (tree_refusal g.children g.root))
 
--- the answer of each group of tests is the load's, if the groups before it give none
-pub from_room : (g : Given) (r : Refusal) → Some r ≡ room_refusal g None → Some r ≡ load_refusal g
-from_room g r a = ap (λ o. or_else o (or_else (block_refusal g None) (tree_refusal g.children g.root))) a ∙ sym (load_else g)
+-- the answer of each group of tests is the load's, if the groups before it are passed
+module _ (g : Given) where
+  past_lengths : Answers (Ok tt) (room_refusal g None) → load_refusal g ≡ or_else (block_refusal g None) (tree_refusal g.children g.root)
+  past_lengths a = load_else g ∙ ap (λ o. or_else o (or_else (block_refusal g None) (tree_refusal g.children g.root))) (answered_ok _ _ (sym a))
 
-past_lengths : (g : Given) → None ≡ room_refusal g None → or_else (block_refusal g None) (tree_refusal g.children g.root) ≡ load_refusal g
-past_lengths g a = ap (λ o. or_else o (or_else (block_refusal g None) (tree_refusal g.children g.root))) a ∙ sym (load_else g)
+  pub from_room : (r : Refusal) → Answers (Err r) (room_refusal g None) → Answers (Err r) (load_refusal g)
+  from_room r a =
+      let o = or_else (block_refusal g None) (tree_refusal g.children g.root) in
+      sym (ap (λ x. answered x tt) (load_else g ∙ ap (λ x. or_else x o) (answered_err _ _ r (sym a))))
 
-pub from_blocks : (g : Given) (r : Refusal) → None ≡ room_refusal g None → Some r ≡ block_refusal g None → Some r ≡ load_refusal g
-from_blocks g r a b = ap (λ o. or_else o (tree_refusal g.children g.root)) b ∙ past_lengths g a
+  pub from_blocks : (r : Refusal) → Answers (Ok tt) (room_refusal g None) → Answers (Err r) (block_refusal g None) → Answers (Err r) (load_refusal g)
+  from_blocks r a b = sym (ap (λ x. answered x tt) (past_lengths a ∙ ap (λ x. or_else x (tree_refusal g.children g.root)) (answered_err _ _ r (sym b))))
 
-pub from_tree : (g : Given) (x : Option Refusal) → None ≡ room_refusal g None → None ≡ block_refusal g None → x ≡ tree_refusal g.children g.root → x ≡ load_refusal g
-from_tree g x a b t = t ∙ ap (λ o. or_else o (tree_refusal g.children g.root)) b ∙ past_lengths g a
+  pub from_tree : (x : Result (Unit {0}) Refusal) → Answers (Ok tt) (room_refusal g None) → Answers (Ok tt) (block_refusal g None)
+      → Answers x (tree_refusal g.children g.root) → Answers x (load_refusal g)
+  from_tree x a b t = t ∙ sym (ap (λ y. answered y tt) (past_lengths a ∙ ap (λ y. or_else y (tree_refusal g.children g.root)) (answered_ok _ _ (sym b))))

@@ -1,10 +1,8 @@
 #![tactic(auto)]
 // The tests of a load.
-mod letters;
+mod faults;
 mod links;
 mod load;
 mod reach;
-mod sizes;
 
-pub use letters::letter_of;
 pub use load::load_refusal;

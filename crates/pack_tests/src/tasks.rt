@@ -2,15 +2,14 @@
 use columns::Columns;
 use packer::{Extent, Spot, pack};
 use placed::Placed;
-use placed::rectangles::Rectangle;
 use plan::Plan;
 use rules::placements::Placement;
 use rules::refusals::Refusal;
 use skyline::skylines::Skyline;
+use skyline::spans::Run;
 use std::alloc::Global;
 use std::process::Abort;
 use std::test::Fail;
-use steps::runs::Run;
 use steps::steps::Steps;
 
 // What a record holds before a packing.
@@ -24,12 +23,6 @@ pub const OLD_PLACE: Placement = Placement {
 const OLD_SPOT: Spot = Spot {
     block: 99,
     left: 99,
-};
-
-const OLD_RECTANGLE: Rectangle = Rectangle {
-    start: 0,
-    end: 12,
-    top: 99,
 };
 
 const OLD_RUN: Run = Run {
@@ -130,7 +123,7 @@ pub fn check_over_records(
     plan: &Plan,
     task: Task<'_>,
 ) -> Result<(), Fail> {
-    let mut records = vec![in heap; OLD_RECTANGLE; task.raises]?;
+    let mut records = vec![in heap; OLD_RUN; task.raises]?;
     let mut runs = vec![in heap; OLD_RUN; task.raises.saturating_mul(2).saturating_add(1)]?;
     check_over(
         rt,

@@ -1,8 +1,8 @@
-pub mod Bounds
-pub mod Pending
+pub mod Laying
+pub mod Standing
+pub mod Turns
+pub mod Present
 pub mod Records
 pub mod Filling
-pub mod Present
-pub mod Refusing
 pub mod Showing
 pub mod Telling

@@ -1,9 +1,9 @@
 -- The records of the placed blocks, block by block.
-use Rattle.std.proofs.Common.{◌≡◌, ℕ, ◌+◌, ◌<◌, cond, eqb, List, [], ◌∷◌, ◌++◌, map, length, get_or, drop, set, sym, ap, ◌∙◌, inl, inr, arith}
+use Rattle.std.proofs.Common.{◌≡◌, ℕ, zero, suc, ◌+◌, ◌<◌, ◌≤◌, cond, eqb, List, [], ◌∷◌, ◌++◌, map, length, get_or, drop, set, replicate, sym, refl, ap, ◌∙◌, inl, inr, arith}
 use Rattle.std.specs.List.{range_with_len}
 use Rattle.std.proofs.lemmas.Bool.{cases_eq, eq-eqb, ne_eqb, cond-true, cond-false}
-use Rattle.std.proofs.lemmas.List.{ext_get_or, length-set, get_or-set_same, get_or-set_other, set-append_left, set_at, drop_at, drop_more, append_assoc}
-use Rattle.std.proofs.lemmas.List.FromFn.{length-map-range_with_len, get_or-map-range_with_len, map-range_with_len_more}
+use Rattle.std.proofs.lemmas.List.{ext_get_or, length-set, get_or-set_same, get_or-set_other, set-append_left, length-append}
+use Rattle.std.proofs.lemmas.List.FromFn.{length-map-range_with_len, get_or-map-range_with_len}
 use Rattle.rules.specs.declared.placements.Placement.{Placement}
 use Rattle.rules.specs.Packing.{Rect}
 use Rattle.promises.specs.Packs.{nowhere, record_of}
@@ -42,17 +42,13 @@ recorded_more ps n before q h =
     set-append_left (map (record_of ps) (range_with_len 0 n)) (drop n before) q.block (placement q) (omega (arith, length-map-range_with_len (record_of ps) 0 n))
     ∙ ap (λ (rs : List Placement). rs ++ drop n before) (set_counting (record_of ps) n q.block (placement q) h)
 
--- records written over records
-pub recorded_twice : (ps qs : List Rect) (n : ℕ) (before : List Placement) → recorded ps n (recorded qs n before) ≡ recorded ps n before
-recorded_twice ps qs n before =
-    ap (λ (rs : List Placement). map (record_of ps) (range_with_len 0 n) ++ rs) (drop_at (map (record_of qs) (range_with_len 0 n)) (drop n before) n (length-map-range_with_len (record_of qs) 0 n))
+none_of : (a n : ℕ) → replicate n nowhere ≡ map (record_of []) (range_with_len a n)
+none_of a zero = refl
+none_of a (suc n) = ap (λ (rs : List Placement). nowhere ∷ rs) (none_of (a + 1) n)
 
--- one more record blanked
-pub blank_more : (i : ℕ) (before : List Placement) → i < length before → set (recorded [] i before) i nowhere ≡ recorded [] (i + 1) before
-blank_more i before h =
-    let long = length-map-range_with_len (record_of []) 0 i in
-    let P = map (record_of []) (range_with_len 0 i) in
-    ap (λ (rs : List Placement). set (P ++ rs) i nowhere) (drop_more before i nowhere h)
-    ∙ set_at P (get_or before i nowhere) (drop (i + 1) before) nowhere i long
-    ∙ sym (append_assoc P (nowhere ∷ []) (drop (i + 1) before))
-    ∙ ap (λ (rs : List Placement). rs ++ drop (i + 1) before) (sym (map-range_with_len_more (record_of []) 0 i i (omega arith)))
+-- blanked records
+pub recorded_none : (n : ℕ) (before : List Placement) → recorded [] n before ≡ replicate n nowhere ++ drop n before
+recorded_none n before = ap (λ (rs : List Placement). rs ++ drop n before) (sym (none_of 0 n))
+
+pub recorded_long : (ps : List Rect) (n : ℕ) (before : List Placement) → n ≤ length (recorded ps n before)
+recorded_long ps n before = omega (arith, length-append (map (record_of ps) (range_with_len 0 n)) (drop n before), length-map-range_with_len (record_of ps) 0 n)

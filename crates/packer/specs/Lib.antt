@@ -1,4 +1,5 @@
 pub mod Walks
+pub mod Ahead
 pub mod Places
 pub mod Gives
 pub mod Shows

@@ -1,32 +1,41 @@
 // Packing a plan: the tests, then the placing.
-ghost use Rattle.std.specs.Prelude.{◌≡◌, length};
+ghost use Rattle.std.specs.Prelude.{◌≡◌, ◌≤◌, length, count_by};
+ghost use Rattle.rules.specs.Trees.{size};
+ghost use Rattle.rules.specs.Packing.{packed, reach};
 ghost use Rattle.plan.specs.Sound.{plan_of};
 ghost use Rattle.plan.specs.Meaning.{rows, root_of};
-ghost use Rattle.packer.specs.Gives.{marked, Tested, PackGives};
+ghost use Rattle.packer.specs.Gives.{Tested, PackGives};
 ghost use Rattle.packer.specs.Shows.{PackShows};
 
 use crate::placing::place_all;
 use crate::spots::{Extent, Spot};
-use crate::walking::reach_of;
+use crate::walking::Walk;
 use plan::Plan;
 use rules::placements::Placement;
 use rules::refusals::Refusal;
 use skyline::skylines::Skyline;
 use table::blocks::Block;
 
+// How many blocks are present.
 fn count_present(blocks: &[Block]) -> usize
-    ensures { result ≡ marked blocks.now (length blocks.now) }
+    ensures { result ≡ count_by (λ block. block.present) blocks.now }
 {
-    let mut count = 0;
-    for block in blocks {
-        if block.present {
-            count += 1;
-        }
-    }
-    count
+    blocks.iter().filter(|block| block.present).count()
+}
+
+// The largest right edge.
+fn reach_of(plan: &Plan, walk: &mut [Spot]) -> u32
+    requires { size (plan_of (rows plan.now) (root_of plan.now)).tree ≤ length walk.old }
+    ensures { result ≡ reach (packed (plan_of (rows plan.now) (root_of plan.now))) }
+{
+    Walk::new(plan, walk)
+        .map(|visit| visit.left + visit.size.width)
+        .max()
+        .unwrap_or(0)
 }
 
 // The plan's reach, if the walk memory, that many records and the skyline are large enough for it.
+#[tactic(auto, using(crate::proofs::Present::present_is, crate::proofs::Present::rows_are, crate::proofs::Present::packed_flat), unfolding(promises::specs::Packs::pack_refusal))]
 fn tested_reach<S: Skyline>(
     plan: &Plan,
     skyline: &S,
@@ -40,7 +49,7 @@ fn tested_reach<S: Skyline>(
     if walk.len() < present || records < blocks.len() {
         return Err(Refusal::MemoryTooShort);
     }
-    let reach = reach_of(blocks, plan.root(), walk);
+    let reach = reach_of(plan, walk);
     if skyline.columns() < reach {
         return Err(Refusal::ReachTooWide);
     }
@@ -50,7 +59,8 @@ fn tested_reach<S: Skyline>(
     Ok(reach)
 }
 
-// Places the present blocks of a plan, each resting on those before it in depth-first order, and writes one record a block.
+// Places the present blocks of a plan, each resting on those before it in depth-first order, and writes one record a block. It
+// stands apart from `pack`, whose clause `shows` follows from this whole clause, for the refused and the accepted at once.
 fn pack_plan<S: Skyline>(
     plan: &Plan,
     skyline: &mut S,
@@ -60,12 +70,13 @@ fn pack_plan<S: Skyline>(
     ensures { PackGives S.Skyline.meaning (plan_of (rows plan.now) (root_of plan.now)) skyline.old skyline.new walk.old walk.new places.old places.new result }
 {
     let width = tested_reach(plan, skyline, walk, places.len())?;
-    let height = place_all(plan.blocks(), plan.root(), skyline, walk, places);
+    let height = place_all(plan, skyline, walk, places);
     Ok(Extent { width, height })
 }
 
 // Packs the plan in hand over a skyline in any state: `gives` says what it answers and leaves, `shows` what every accepted packing
 // shows, for every list of calls that led to the plan.
+// The skyline and the two slices stay apart: in a struct each would owe a clause more, that it is still the one lent.
 pub fn pack<S: Skyline>(
     plan: &Plan,
     skyline: &mut S,

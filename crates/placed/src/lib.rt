@@ -1,18 +1,17 @@
 #![tactic(auto)]
-// A skyline that holds each raised rectangle in a record, in memory that the caller lends.
+// A skyline that holds each raised run of columns in a record, in memory that the caller lends.
 ghost use Rattle.std.specs.Prelude.{◌≤◌, min, length};
+ghost use Rattle.stack.specs.Stacked.{held, room};
 
-use rectangles::Rectangle;
+use skyline::spans::Run;
+use stack::stack::Stack;
 
 mod calls;
-pub mod rectangles;
 
-// The records used stand at the front, the newest last. The memory is always the one lent, and no record behind the first
-// 65,536 is written.
+// The memory is always the one lent, and no record behind the first 65,536 is written.
 #[derive(Drop)]
 pub struct Placed<'a> {
-    records: &'a mut [Rectangle],
-    used: u32,
+    raised: Stack<'a, Run>,
     width: u32,
-    ghost fits: { used ≤ min (length records.now) 65536 },
+    ghost fits: { length (held raised) ≤ min (room raised) 65536 },
 }

@@ -15,7 +15,7 @@ use Rattle.table.specs.Tables.{at, blank, lefts, rights, Holds, Keeps, has_both,
 use Rattle.table.proofs.Rows.{set_part}
 use Rattle.rules.proofs.Spelling.{frame}
 use Rattle.plan.specs.Sound.{table_tree, Sound, all_fit, sizes_fit, plan_of}
-use Rattle.plan.specs.Rows.{turned_row}
+use Rattle.table.specs.Rows.{turned_row}
 use Rattle.plan.proofs.Sounds.{holds, tree_is, sound, plan_same, changed, count_is}
 use Rattle.theorems.proofs.Passed.{There, absent_passed, pair_passed, put_passed}
 
@@ -90,7 +90,7 @@ module _ (bs : List Block) (root i : ℕ) (n : length bs ≤ 512) (s : Sound bs 
       record {
         few = omega arith;
         spelt = subst (λ m. Spells (lefts cs) (rights cs) m root (table_tree bs root)) (sym long)
-            (frame (lefts bs) (rights bs) (lefts cs) (rights cs) (length bs) root (table_tree bs root) (λ k _. (left (λ b. b.left) (λ b. refl) k, left (λ b. b.right) (λ b. refl) k)) h.spelt);
+            (frame (lefts bs) (rights bs) (lefts cs) (rights cs) (length bs) root (table_tree bs root) (λ k _. (left (λ b. b.children.left) (λ b. refl) k, left (λ b. b.children.right) (λ b. refl) k)) h.spelt);
         once = λ k. h.once k ∙ ap {B = ℕ} (λ b. cond b 1 0) (sym (left (λ b. b.present) (λ b. refl) k));
       }
 

@@ -3,3 +3,4 @@ pub mod Passing
 pub mod Changes
 pub mod Telling
 pub mod Loading
+pub mod Loads

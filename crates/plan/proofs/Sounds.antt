@@ -95,11 +95,3 @@ unfolding sizes_fit plan_of
 empty_sound bs root e f =
     let h = empty_holds bs root e f in
     (sound h, ap all_fit e, plan_same (plan_of bs root) new_plan (ap (map (λ b. b.size)) e) (ap (map (λ b. b.letter)) e) (tree_is h))
-
--- what an edit of a table's slice gives, said of the table's own items
-pub of_items : (P : List Block → Tree → Type 0) (g : Tree → Tree) (bs items cs items' : List Block) (root r : ℕ) → bs ≡ items → items' ≡ cs → Keeps bs cs
-    → ((t : Tree) → Holds bs root t → P bs t → Holds cs r (g t))
-    → Keeps items items' × ((t : Tree) → Holds items root t → P items t → Holds items' r (g t))
-of_items P g bs items cs items' root r e f k h =
-    let S : List Block → List Block → Type 0 = λ x y. Keeps x y × ((t : Tree) → Holds x root t → P x t → Holds y r (g t)) in
-    subst (λ x. S x items') e (subst (λ y. S bs y) (sym f) (k, h))

@@ -42,7 +42,7 @@ children_are bs n x i (node k l r) s h = elim (cases_eq k i) [
 
 module _ (bs : List Block) (root i : ℕ) (n : length bs ≤ 512) (s : Sound bs root) (hi : i < length bs) (hc : 0 < count i (table_tree bs root)) where
   pub report_is : (b : Block) (kept : Bool) → b ≡ at bs i → ((t : Tree) → Holds bs root t → kept ≡ letter_kept b.letter i t)
-      → ◌≡◌ {A = Report} (record { size = b.size; children = record { left = b.left; right = b.right }; letter = b.letter; kept = kept }) (report_of (plan_of bs root) i)
+      → ◌≡◌ {A = Report} (record { size = b.size; children = b.children; letter = b.letter; kept = kept }) (report_of (plan_of bs root) i)
   unfolding plan_of
   report_is b kept e k =
       let h = holds n s in

@@ -1,10 +1,12 @@
 -- What the two states of a plan mean.
-use Rattle.std.specs.Prelude.{ℕ, ◌+◌, min, Bool, cond, not, List, vec_items}
+use Rattle.std.specs.Prelude.{ℕ, ◌+◌, min, Bool, true, false, cond, List, vec_items}
 use Rattle.rules.specs.Plans.{Plan}
 use Rattle.rules.specs.Book.{Call, Settles, Tries}
 use Rattle.table.specs.declared.blocks.Block.{Block}
-use Rattle.plan.specs.declared.tables.Table.{Table}
+use Rattle.table.specs.declared.tables.Table.{Table}
 use Rattle.plan.specs.declared.plans.Plan.{Plan as Held}
+use Rattle.plan.specs.declared.states.Before.{Before}
+use Rattle.plan.specs.declared.states.Before.TheVariants.{Unaltered, Plan as Earlier}
 use Rattle.plan.specs.declared.states.Settled.{Settled}
 use Rattle.plan.specs.declared.states.Tried.{Tried}
 use Rattle.plan.specs.Sound.{plan_of}
@@ -33,13 +35,23 @@ settled_kept s = s.kept
 abbrev pub tried_plan : Tried → Plan
 tried_plan t = meant t.plan.table
 
+-- the plan from before a trial's edit, or of an empty trial the plan in hand
+abbrev pub goes_back : Plan → Before → Plan
+goes_back p (Unaltered t) = p
+goes_back p (Earlier b) = meant b.table
+
 -- the plan that undo goes back to
 abbrev pub before_plan : Tried → Plan
-before_plan t = meant t.before.table
+before_plan t = goes_back (tried_plan t) t.before
+
+-- nothing was altered
+abbrev pub unaltered : Before → Bool
+unaltered (Unaltered t) = true
+unaltered (Earlier b) = false
 
 -- whether the trial is empty
 abbrev pub is_empty : Tried → Bool
-is_empty t = not t.edited
+is_empty t = unaltered t.before
 
 -- the count that undo leads to, and the one that keep leads to: it stops at 4,294,967,295, and an empty trial does not count
 abbrev pub tried_kept : Tried → ℕ
@@ -47,7 +59,7 @@ tried_kept t = t.kept
 
 -- the count that keep leads to
 abbrev pub kept_next : Tried → ℕ
-kept_next t = cond t.edited (min 4294967295 (t.kept + 1)) t.kept
+kept_next t = cond (is_empty t) t.kept (min 4294967295 (t.kept + 1))
 
 -- the plan in hand follows a list of calls
 abbrev pub SettledBy : List Call → Settled → Type 0

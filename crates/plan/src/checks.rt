@@ -1,5 +1,7 @@
 // The tests of the edits.
-ghost use Rattle.std.specs.Prelude.{◌≡◌, ◌<◌};
+ghost use Rattle.std.specs.Prelude.{◌≡◌, ◌<◌, not, nat_le, None};
+ghost use Rattle.rules.specs.declared.refusals.Refusal.TheVariants.{NoSuchBlock, Absent};
+ghost use Rattle.rules.specs.Refusals.{answered, when};
 ghost use Rattle.rules.specs.Plans.{block_count, present, bare};
 ghost use Rattle.rules.specs.Edits.{edit_refusal, absent_refusal, pair_refusal, put_refusal};
 ghost use Rattle.plan.specs.Meaning.{meant};
@@ -9,6 +11,7 @@ use rules::blocks::NONE;
 use rules::edits::Edit;
 use rules::refusals::Refusal;
 
+#[tactic(auto, using(crate::proofs::Sounds::count_is, crate::proofs::Sounds::present_is, crate::proofs::Sounds::bare_is), unfolding(rules::specs::Edits::edit_refusal))]
 impl Plan {
     pub(crate) fn len(&self) -> usize
         ensures { result ≡ block_count (meant self.now.table) }
@@ -29,58 +32,63 @@ impl Plan {
         self.table.blocks[i as usize].present
     }
 
+    // 9.
+    fn test_known(&self, i: u16) -> Result<(), Refusal>
+        ensures { result ≡ answered (when (nat_le (block_count (meant self.now.table)) i) (NoSuchBlock i) None) tt }
+    {
+        if i as usize >= self.len() {
+            return Err(Refusal::NoSuchBlock(i));
+        }
+        Ok(())
+    }
+
+    // 21.
+    fn test_standing(&self, i: u16) -> Result<(), Refusal>
+        requires { i < block_count (meant self.now.table) }
+        ensures { result ≡ answered (when (not (present (meant self.now.table) i)) (Absent i) None) tt }
+    {
+        if !self.is_present(i) {
+            return Err(Refusal::Absent(i));
+        }
+        Ok(())
+    }
+
     // 9, then 21.
-    pub(crate) fn test_present(&self, i: u16) -> Option<Refusal>
-        ensures { result ≡ absent_refusal (meant self.now.table) i }
+    pub(crate) fn test_present(&self, i: u16) -> Result<(), Refusal>
+        ensures { result ≡ answered (absent_refusal (meant self.now.table) i) tt }
     {
-        if i as usize >= self.len() {
-            return Some(Refusal::NoSuchBlock(i));
-        }
-        if !self.is_present(i) {
-            return Some(Refusal::Absent(i));
-        }
-        None
+        self.test_known(i)?;
+        self.test_standing(i)
     }
 
-    fn test_pair(&self, i: u16, j: u16) -> Option<Refusal>
-        ensures { result ≡ pair_refusal (meant self.now.table) i j }
+    fn test_pair(&self, i: u16, j: u16) -> Result<(), Refusal>
+        ensures { result ≡ answered (pair_refusal (meant self.now.table) i j) tt }
     {
-        if i as usize >= self.len() {
-            return Some(Refusal::NoSuchBlock(i));
-        }
-        if j as usize >= self.len() {
-            return Some(Refusal::NoSuchBlock(j));
-        }
+        self.test_known(i)?;
+        self.test_known(j)?;
         if i == j {
-            return Some(Refusal::SameBlock(i));
+            return Err(Refusal::SameBlock(i));
         }
-        if !self.is_present(i) {
-            return Some(Refusal::Absent(i));
-        }
-        if !self.is_present(j) {
-            return Some(Refusal::Absent(j));
-        }
-        None
+        self.test_standing(i)?;
+        self.test_standing(j)
     }
 
-    fn test_put(&self, i: u16, j: u16) -> Option<Refusal>
-        ensures { result ≡ put_refusal (meant self.now.table) i j }
+    fn test_put(&self, i: u16, j: u16) -> Result<(), Refusal>
+        ensures { result ≡ answered (put_refusal (meant self.now.table) i j) tt }
     {
-        if i as usize >= self.len() {
-            return Some(Refusal::NoSuchBlock(i));
-        }
+        self.test_known(i)?;
         if self.is_present(i) {
-            return Some(Refusal::Present(i));
+            return Err(Refusal::Present(i));
         }
         if self.is_bare() {
-            return None;
+            return Ok(());
         }
         self.test_present(j)
     }
 
     // The first refusal of an edit.
-    pub(crate) fn refusal(&self, edit: Edit) -> Option<Refusal>
-        ensures { result ≡ edit_refusal (meant self.now.table) edit }
+    pub(crate) fn refusal(&self, edit: Edit) -> Result<(), Refusal>
+        ensures { result ≡ answered (edit_refusal (meant self.now.table) edit) tt }
     {
         match edit {
             Edit::Turn(i) | Edit::TakeOut(i) => self.test_present(i),

@@ -2,13 +2,11 @@
 // A plan of blocks: load, report, the five edits, and trials.
 mod checks;
 mod edits;
-mod memory;
 mod plans;
 mod reads;
 mod reports;
 mod rows;
 mod states;
-mod tables;
 mod tells;
 mod trials;
 

@@ -3,7 +3,7 @@
 ghost use Rattle.std.specs.Prelude.{◌≡◌, true};
 ghost use Rattle.plan.specs.Sound.{Sound, all_fit};
 
-use crate::tables::Table;
+use table::Table;
 
 #[derive(Drop)]
 pub struct Plan {

@@ -1,23 +1,33 @@
-// The row of a block that is loaded.
-ghost use Rattle.std.specs.Prelude.{◌≡◌};
-ghost use Rattle.plan.specs.Rows.{loaded_row};
+// The rows of a load.
+ghost use Rattle.std.specs.Prelude.{◌≡◌, ◌≤◌, length};
+ghost use Rattle.plan.specs.Rows.{loaded_row, loaded_rows};
 
-use loading::letter_of;
-use rules::blocks::{Children, Letter, Size};
+use rules::blocks::{Children, Letter, Lists, Size};
+use table::Table;
 use table::blocks::Block;
 
-pub(crate) fn row(size: Size, letter: u8, children: Children) -> Block
+fn row(size: Size, letter: u8, children: Children) -> Block
     ensures { result ≡ loaded_row size letter children }
 {
-    let letter = match letter_of(letter) {
-        Some(letter) => letter,
-        None => Letter::Free,
-    };
     Block {
         size,
-        letter,
-        left: children.left,
-        right: children.right,
+        letter: Letter::try_from(letter).unwrap_or(Letter::Free),
+        children,
         present: true,
     }
+}
+
+// Fills the table with the blocks of lists that passed the tests of load, all present.
+pub(crate) fn fill(table: &mut Table, lists: Lists<'_>)
+    requires few { length lists.sizes.now ≤ 512 }
+    requires letters { length lists.letters.now ≡ length lists.sizes.now }
+    requires children { length lists.children.now ≡ length lists.sizes.now }
+    ensures items { table.new.blocks.items ≡ loaded_rows lists.entry.sizes.now lists.entry.letters.now lists.entry.children.now }
+    ensures root { table.new.root ≡ lists.entry.root }
+{
+    table.blocks.clear();
+    for ((size, letter), children) in lists.sizes.iter().zip(lists.letters).zip(lists.children) {
+        table.blocks.push_reserved(row(*size, *letter, *children));
+    }
+    table.root = lists.root;
 }

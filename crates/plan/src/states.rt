@@ -1,6 +1,6 @@
 // The two states of a plan.
 use crate::plans::Plan;
-use crate::tables::Table;
+use table::Table;
 
 // A plan with no open trial. The spare table is memory for the next trial.
 #[derive(Drop)]
@@ -10,11 +10,18 @@ pub struct Settled {
     pub(crate) kept: u32,
 }
 
+// What an open trial goes back to.
+#[derive(Drop)]
+pub(crate) enum Before {
+    // of an empty trial the plan as it is; the table is memory for the next trial
+    Unaltered(Table),
+    // the plan from before the edit
+    Plan(Plan),
+}
+
 // A plan with an open trial: it is not Drop, so it is kept or undone.
 pub struct Tried {
     pub(crate) plan: Plan,
-    pub(crate) before: Plan,
+    pub(crate) before: Before,
     pub(crate) kept: u32,
-    // false for an empty trial
-    pub(crate) edited: bool,
 }

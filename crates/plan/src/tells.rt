@@ -5,27 +5,19 @@ ghost use Rattle.plan.specs.Reports.{reported};
 
 use crate::plans::Plan;
 use crate::reports::Report;
-use rules::blocks::Children;
 use rules::refusals::Refusal;
-use table::is_letter_kept;
 
 impl Plan {
     pub(crate) fn report(&self, i: u16) -> Result<Report, Refusal>
         ensures { result ≡ reported (meant self.now.table) i }
     {
-        if let Some(refusal) = self.test_present(i) {
-            return Err(refusal);
-        }
+        self.test_present(i)?;
         let b = self.table.blocks[i as usize];
-        let kept = is_letter_kept(self.table.blocks.as_slice(), self.table.root, b.letter, i);
         Ok(Report {
             size: b.size,
-            children: Children {
-                left: b.left,
-                right: b.right,
-            },
+            children: b.children,
             letter: b.letter,
-            kept,
+            kept: self.table.is_letter_kept(b.letter, i),
         })
     }
 }

@@ -14,33 +14,14 @@ ghost use Rattle.plan.specs.Reports.{reported};
 
 use crate::plans::Plan;
 use crate::reports::Report;
-use crate::states::{Settled, Tried};
-use crate::tables::Table;
+use crate::rows::fill;
+use crate::states::{Before, Settled, Tried};
 use loading::load_refusal;
-use rules::blocks::{Children, Size};
+use rules::blocks::Lists;
 use rules::edits::Edit;
 use rules::refusals::Refusal;
 use std::alloc::{AllocError, Global};
-
-// One kept trial more, unless it was empty; the count stops at its largest value.
-fn counted(kept: u32, edited: bool) -> u32
-    ensures { result ≡ (if edited then min 4294967295 (kept + 1) else kept) }
-{
-    if edited { kept.saturating_add(1) } else { kept }
-}
-
-// The plan settled, with the memory of the other one for the next trial.
-fn settle(plan: Plan, other: Plan, kept: u32) -> Settled
-    ensures plan { result.plan ≡ plan }
-    ensures kept { result.kept ≡ kept }
-{
-    let Plan { table } = other;
-    Settled {
-        plan,
-        spare: table,
-        kept,
-    }
-}
+use table::Table;
 
 impl Settled {
     // A new plan, with no blocks, and memory for 512.
@@ -59,22 +40,13 @@ impl Settled {
 
     // Replaces the plan by the lists given, every block present, and answers how many there are. A refused load leaves the
     // plan as it was; the walk memory is altered only once the tests of lengths are passed.
-    pub fn load(
-        &mut self,
-        sizes: &[Size],
-        letters: &[u8],
-        children: &[Children],
-        root: u16,
-        walk: &mut [u16],
-    ) -> Result<usize, Refusal>
-        ensures { LoadGives (given sizes.now letters.now children.now root (length walk.old)) self.old self.new walk.old walk.new result }
+    pub fn load(&mut self, lists: Lists<'_>, walk: &mut [u16]) -> Result<usize, Refusal>
+        ensures { LoadGives (given lists.entry (length walk.old)) self.old self.new walk.old walk.new result }
     {
-        if let Some(refusal) = load_refusal(sizes, letters, children, root, walk) {
-            return Err(refusal);
-        }
-        self.plan.table.fill(sizes, letters, children, root);
+        load_refusal(lists, walk)?;
+        fill(&mut self.plan.table, lists);
         self.kept = 0;
-        Ok(sizes.len())
+        Ok(lists.sizes.len())
     }
 
     pub fn report(&self, block: u16) -> Result<Report, Refusal>
@@ -88,10 +60,7 @@ impl Settled {
         ensures plain { result ≡ answered (edit_refusal (settled_plan self.now) edit) tt }
         ensures told { (cs : List Call) → SettledBy cs self.now → SettledBy (cs ++ (test edit ∷ [])) self.now }
     {
-        match self.plan.refusal(edit) {
-            Some(refusal) => Err(refusal),
-            None => Ok(()),
-        }
+        self.plan.refusal(edit)
     }
 
     // Opens a trial of the edit; it is empty where the edit is refused.
@@ -103,27 +72,25 @@ impl Settled {
         ensures next { kept_next result ≡ count_begun (edit_refusal (settled_plan self) edit) (settled_kept self) }
         ensures told { (cs : List Call) → SettledBy cs self → TriedBy (cs ++ (begin edit ∷ [])) result }
     {
-        let Settled { plan, spare, kept } = self;
-        let mut plan = plan;
-        let mut spare = spare;
+        let Settled {
+            mut plan,
+            mut spare,
+            kept,
+        } = self;
+        if plan.refusal(edit).is_err() {
+            return Tried {
+                plan,
+                before: Before::Unaltered(spare),
+                kept,
+            };
+        }
         spare.copy_from(&plan.table);
         let before = Plan { table: spare };
-        match plan.refusal(edit) {
-            Some(_) => Tried {
-                plan,
-                before,
-                kept,
-                edited: false,
-            },
-            None => {
-                plan.perform(edit);
-                Tried {
-                    plan,
-                    before,
-                    kept,
-                    edited: true,
-                }
-            }
+        plan.perform(edit);
+        Tried {
+            plan,
+            before: Before::Plan(before),
+            kept,
         }
     }
 }
@@ -133,7 +100,7 @@ impl Tried {
     pub fn is_empty(&self) -> bool
         ensures { result ≡ is_empty self.now }
     {
-        !self.edited
+        matches!(self.before, Before::Unaltered(_))
     }
 
     pub fn report(&self, block: u16) -> Result<Report, Refusal>
@@ -148,13 +115,12 @@ impl Tried {
         ensures kept { settled_kept result ≡ kept_next self }
         ensures told { (cs : List Call) → TriedBy cs self → SettledBy (cs ++ (keep ∷ [])) result }
     {
-        let Tried {
-            plan,
-            before,
-            kept,
-            edited,
-        } = self;
-        settle(plan, before, counted(kept, edited))
+        let Tried { plan, before, kept } = self;
+        let (spare, kept) = match before {
+            Before::Unaltered(spare) => (spare, kept),
+            Before::Plan(Plan { table }) => (table, kept.saturating_add(1)),
+        };
+        Settled { plan, spare, kept }
     }
 
     // Ends the trial with the plan from before it.
@@ -163,12 +129,14 @@ impl Tried {
         ensures kept { settled_kept result ≡ tried_kept self }
         ensures told { (cs : List Call) → TriedBy cs self → SettledBy (cs ++ (undo ∷ [])) result }
     {
-        let Tried {
-            plan,
-            before,
-            kept,
-            edited: _,
-        } = self;
-        settle(before, plan, kept)
+        let Tried { plan, before, kept } = self;
+        let (plan, spare) = match before {
+            Before::Unaltered(spare) => (plan, spare),
+            Before::Plan(before) => {
+                let Plan { table } = plan;
+                (before, table)
+            }
+        };
+        Settled { plan, spare, kept }
     }
 }

@@ -10,7 +10,7 @@ use packer::{Spot, pack};
 use plan::Plan;
 use rules::blocks::MOST_BLOCKS;
 use rules::placements::Placement;
-use steps::runs::Run;
+use skyline::spans::Run;
 use steps::steps::Steps;
 
 // As many columns as 512 blocks of the longest side reach.
@@ -24,11 +24,7 @@ pub(crate) fn places_of(plan: &Plan) -> [Placement; MOST_BLOCKS]
     ensures within { Within (plan_of (rows plan.now) (root_of plan.now)) }
     ensures places { take (block_count (plan_of (rows plan.now) (root_of plan.now))) result ≡ placements (plan_of (rows plan.now) (root_of plan.now)) }
 {
-    let mut runs = [Run {
-        start: 0,
-        end: 0,
-        top: 0,
-    }; RUNS];
+    let mut runs = [Run::default(); RUNS];
     let mut skyline = Steps::new(&mut runs, COLUMNS);
     let mut walk = [Spot { block: 0, left: 0 }; MOST_BLOCKS];
     let mut places = [Placement {

@@ -14,14 +14,13 @@ use desk::Desk;
 use lists::Lists;
 use packs::pack_lines;
 use placed::Placed;
-use placed::rectangles::Rectangle;
 use plan::Settled;
 use script::line::{Kind, Line};
 use script::read_line;
 use skyline::skylines::Skyline;
+use skyline::spans::Run;
 use std::io;
 use std::io::Read;
-use steps::runs::Run;
 use steps::steps::Steps;
 use words::split::next_line;
 
@@ -127,22 +126,12 @@ fn over<'a>(rt: &HostRuntime, kind: Kind, work: Work<'a>) -> io::Result<(Work<'a
             lines(rt, &mut skyline, work)
         }
         Kind::Steps(c, n) => {
-            let run = Run {
-                start: 0,
-                end: 0,
-                top: 0,
-            };
-            let mut memory = vec![in rt.alloc(); run; n as usize]?;
+            let mut memory = vec![in rt.alloc(); Run::default(); n as usize]?;
             let mut skyline = Steps::new(&mut memory, c);
             lines(rt, &mut skyline, work)
         }
         Kind::Placed(c, n) => {
-            let rectangle = Rectangle {
-                start: 0,
-                end: 0,
-                top: 0,
-            };
-            let mut memory = vec![in rt.alloc(); rectangle; n as usize]?;
+            let mut memory = vec![in rt.alloc(); Run::default(); n as usize]?;
             let mut skyline = Placed::new(&mut memory, c);
             lines(rt, &mut skyline, work)
         }

@@ -1,8 +1,9 @@
 -- The highest top over a span, record by record: over the whole span it is the largest over its columns.
-use Rattle.std.proofs.Common.{◌≡◌, ℕ, ◌+◌, ◌<◌, ◌≤◌, min, max, List, [], ◌∷◌, ◌++◌, length, get_or, take, sym, refl, ap, ◌∙◌, inl, inr, arith}
-use Rattle.std.proofs.lemmas.List.{take_more}
+use Rattle.std.proofs.Common.{◌≡◌, ℕ, ◌+◌, ◌<◌, ◌≤◌, min, max, List, [], ◌∷◌, ◌++◌, reverse, refl, ap, ◌∙◌, inl, inr, arith}
+use Rattle.std.specs.List.{fold}
 use Rattle.std.proofs.lemmas.Bool.{cases_lt}
 use Rattle.std.proofs.lemmas.Bool.Decides.{nat_tests}
+use Rattle.std.proofs.lemmas.Grind.{reverse_onto}
 use Rattle.skyline.specs.Spans.{Extent, part, highest_top}
 
 max_turn : (a b c : ℕ) → max a (max b c) ≡ max b (max a c)
@@ -13,10 +14,17 @@ module _ {X : Type 0} (e : X → Extent) where
   top_push [] x a b = refl
   top_push (y ∷ ys) x a b = ap (max (part (e y) a b)) (top_push ys x a b) ∙ max_turn (part (e y) a b) (part (e x) a b) (highest_top e ys a b)
 
-  pub top_more : (xs : List X) (i : ℕ) (x : X) (a b : ℕ) → i < length xs → x ≡ get_or xs i x → max (part (e x) a b) (highest_top e (take i xs) a b) ≡ highest_top e (take (i + 1) xs) a b
-  top_more xs i x a b within read =
-      let pushed : take (i + 1) xs ≡ take i xs ++ (x ∷ []) = take_more xs i x within ∙ ap (λ y. take i xs ++ (y ∷ [])) (sym read) in
-      sym (ap (λ zs. highest_top e zs a b) pushed ∙ top_push (take i xs) x a b)
+  pub top_reverse : (xs : List X) (a b : ℕ) → highest_top e (reverse xs) a b ≡ highest_top e xs a b
+  top_reverse [] a b = refl
+  top_reverse (x ∷ xs) a b =
+      ap (λ zs. highest_top e zs a b) (reverse_onto xs x []) ∙ top_push (reverse xs) x a b ∙ ap (max (part (e x) a b)) (top_reverse xs a b)
+
+  top_folds : (xs : List X) (a b n : ℕ) → fold (λ m x. max (part (e x) a b) m) n xs ≡ max n (highest_top e xs a b)
+  top_folds [] a b n = omega arith
+  top_folds (x ∷ xs) a b n = let rest = top_folds xs a b (max (part (e x) a b) n) in omega arith
+
+  pub top_fold : (xs : List X) (a b : ℕ) → fold (λ m x. max (part (e x) a b) m) 0 xs ≡ highest_top e xs a b
+  top_fold xs a b = let rest = top_folds xs a b 0 in omega arith
 
   part_inside : (x : Extent) (a b c : ℕ) → a ≤ c → c < b → part x c (c + 1) ≤ part x a b
   part_inside x a b c l u = grind (arith, nat_tests)

@@ -2,16 +2,17 @@
 ghost use Rattle.skyline.specs.Tests.{SpanTested, RaiseTested};
 
 use crate::skylines::GREATEST_HEIGHT;
+use crate::spans::Span;
 use rules::refusals::Refusal;
 
-// The test of a span from a to b, on a skyline of so many columns.
-pub fn test_span(a: u32, b: u32, columns: u32) -> Result<(), Refusal>
+// The span from a to b, tested on a skyline of so many columns.
+pub fn test_span(a: u32, b: u32, columns: u32) -> Result<Span, Refusal>
     ensures { SpanTested a b columns result }
 {
     if a >= b || b > columns {
         return Err(Refusal::WrongSpan);
     }
-    Ok(())
+    Ok(Span { start: a, end: b })
 }
 
 // The tests of a raise to h over a span whose largest height is `highest`, with so many raises left.

@@ -3,20 +3,13 @@ use crate::calls::{Answer, Call, make};
 use crate::painting::{Painting, WIDTH};
 use columns::Columns;
 use placed::Placed;
-use placed::rectangles::Rectangle;
 use skyline::skylines::Skyline;
+use skyline::spans::Run;
 use std::process::Abort;
 use std::test::Fail;
-use steps::runs::Run;
 use steps::steps::Steps;
 
 // What the memory holds before a skyline is made over it.
-pub const STALE_RECTANGLE: Rectangle = Rectangle {
-    start: 0,
-    end: 24,
-    top: 7,
-};
-
 pub const STALE_RUN: Run = Run {
     start: 0,
     end: 24,
@@ -63,10 +56,6 @@ fn run<S: Skyline>(rt: &impl Abort, skyline: &mut S, calls: &[(Call, Answer)]) -
 // The same over each kind, with 12 raises over placed and steps.
 pub fn run_on_each(rt: &impl Abort, calls: &[(Call, Answer)]) -> Result<(), Fail> {
     run(rt, &mut Columns::new(&mut [7; 24]), calls)?;
-    run(
-        rt,
-        &mut Placed::new(&mut [STALE_RECTANGLE; 12], WIDTH),
-        calls,
-    )?;
+    run(rt, &mut Placed::new(&mut [STALE_RUN; 12], WIDTH), calls)?;
     run(rt, &mut Steps::new(&mut [STALE_RUN; 25], WIDTH), calls)
 }

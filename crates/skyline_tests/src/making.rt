@@ -2,7 +2,7 @@
 use crate::calls::Answer::*;
 use crate::calls::Call::*;
 use crate::calls::{Answer, Call, make};
-use crate::kinds::{STALE_RECTANGLE, STALE_RUN};
+use crate::kinds::STALE_RUN;
 use columns::Columns;
 use placed::Placed;
 use skyline::skylines::Skyline;
@@ -67,7 +67,7 @@ fn placed_made(rt: HostRuntime) -> Result<(), Fail> {
         (65_537, 10, 10, 65_536),
     ];
     for (memory, told, c, r) in cases {
-        let mut records = vec![in rt.alloc(); STALE_RECTANGLE; memory]?;
+        let mut records = vec![in rt.alloc(); STALE_RUN; memory]?;
         check_made(&rt, &mut Placed::new(&mut records, told), c, r)?;
     }
     Ok(())
@@ -120,7 +120,7 @@ fn most_columns(rt: HostRuntime) -> Result<(), Fail> {
     let calls = &AT_THE_LAST_COLUMN;
     check_answers(
         &rt,
-        &mut Placed::new(&mut [STALE_RECTANGLE; 2], 67_108_865),
+        &mut Placed::new(&mut [STALE_RUN; 2], 67_108_865),
         calls,
     );
     check_answers(&rt, &mut Steps::new(&mut [STALE_RUN; 5], 67_108_865), calls);

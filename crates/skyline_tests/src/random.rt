@@ -1,6 +1,6 @@
 // A long sequence of calls from a small generator of numbers, made on the three kinds at once.
 use crate::calls::Call;
-use crate::kinds::{STALE_RECTANGLE, STALE_RUN, check_call};
+use crate::kinds::{STALE_RUN, check_call};
 use crate::painting::{Painting, WIDTH};
 use columns::Columns;
 use placed::Placed;
@@ -60,7 +60,7 @@ fn run(
 #[test]
 fn three_kinds(rt: HostRuntime) -> Result<(), Fail> {
     let mut heights = [7; 24];
-    let mut rectangles = vec![in rt.alloc(); STALE_RECTANGLE; 65_536]?;
+    let mut rectangles = vec![in rt.alloc(); STALE_RUN; 65_536]?;
     let mut runs = vec![in rt.alloc(); STALE_RUN; 131_073]?;
     run(
         &rt,

@@ -1,7 +1,7 @@
 -- Runs in order: where each begins and ends, and the parts before and behind a place.
 use Rattle.std.proofs.Common.{◌≡◌, ℕ, zero, suc, ◌+◌, ◌-◌, ◌<◌, ◌≤◌, true, List, [], ◌∷◌, ◌++◌, length, take, drop, sym, refl, ap, ◌∙◌, add-one, arith}
 use Rattle.std.proofs.lemmas.Bool.{and_parts, and_from, eqb-true, eq-eqb, ltb-true, lt-ltb}
-use Rattle.steps.specs.declared.runs.Run.{Run}
+use Rattle.skyline.specs.declared.spans.Run.{Run}
 use Rattle.steps.specs.Order.{in_order, run_at, Reaches}
 
 -- what the order says of no runs, and of a first run
@@ -67,6 +67,12 @@ unfolding edge
 edge_last s e [] o = none_ends s e o
 edge_last s e (x ∷ xs) o = edge_last x.end e xs (first_run s e x xs o).2
 
+-- each run has a column
+some_columns : (s e i : ℕ) (xs : List Run) → in_order s xs e ≡ true → i < length xs → (run_at xs i).start < (run_at xs i).end
+some_columns s e i [] o l = absurd (omega arith)
+some_columns s e zero (x ∷ xs) o l = let f = first_run s e x xs o in omega arith
+some_columns s e (suc i) (x ∷ xs) o l = some_columns x.end e i xs (first_run s e x xs o).2 (omega arith)
+
 -- the runs before place i end where it begins, and the others go on from there
 pub cut : (s e i : ℕ) (xs : List Run) → in_order s xs e ≡ true
     → (in_order s (take i xs) (edge s xs i) ≡ true) × (in_order (edge s xs i) (drop i xs) e ≡ true)
@@ -93,6 +99,7 @@ reaches s e c xs o l u =
     let total = ap (edge s xs) last ∙ edge_last s e xs o in
     record {
       some = some;
+      columns = λ i within. some_columns s e i xs o within;
       joined = λ i within. edge_start s e (i + 1) xs o within ∙ rw (add-one i) (sym (edge_end s i xs (omega arith)));
       from = omega arith;
       to = omega arith;

@@ -1,6 +1,8 @@
 -- One run of height 0 of all columns.
-use Rattle.std.proofs.Common.{◌≡◌, ℕ, ◌<◌, true, List, [], ◌∷◌, length, take, set, refl, ap, ◌∙◌, arith}
-use Rattle.steps.specs.declared.runs.Run.{Run}
+use Rattle.std.proofs.Common.{◌≡◌, ℕ, ◌<◌, min, true, List, [], ◌∷◌, ◌++◌, length, take, drop, refl, ap, ◌∙◌, inl, inr, arith}
+use Rattle.std.proofs.lemmas.Bool.{cases_lt}
+use Rattle.std.proofs.lemmas.List.{drop_all}
+use Rattle.skyline.specs.declared.spans.Run.{Run}
 use Rattle.steps.specs.Order.{in_order, height_at}
 use Rattle.steps.proofs.Edges.{none_ordered, one_more}
 use Rattle.steps.proofs.Heights.{height_here}
@@ -8,12 +10,34 @@ use Rattle.steps.proofs.Heights.{height_here}
 abbrev flat : ℕ → Run
 flat n = record { start = 0; end = n; top = 0 }
 
-front_is : (xs : List Run) (x : Run) → 0 < length xs → take 1 (set xs 0 x) ≡ x ∷ []
-front_is [] x l = absurd (omega arith)
-front_is (y ∷ ys) x l = refl
+pub record Flattened (xs : List Run) (n : ℕ) : Type 0 where
+  pub ordered : in_order 0 xs n ≡ true
+  pub size : length xs ≡ min n 1
+  pub heights : (c : ℕ) → c < n → height_at xs c ≡ 0
 
-pub flat_ordered : (xs : List Run) (n : ℕ) → 0 < length xs → 0 < n → in_order 0 (take 1 (set xs 0 (flat n))) n ≡ true
-flat_ordered xs n l some = ap (λ zs. in_order 0 zs n) (front_is xs (flat n) l) ∙ one_more 0 n (flat n) [] refl some (none_ordered n)
-
-pub flat_height : (xs : List Run) (n c : ℕ) → 0 < length xs → c < n → height_at (take 1 (set xs 0 (flat n))) c ≡ 0
-flat_height xs n c l below = ap (λ zs. height_at zs c) (front_is xs (flat n) l) ∙ height_here (flat n) [] c below
+-- the run, or none where there are no columns, in the place of all runs
+pub flattened : (xs ys zs : List Run) (n count : ℕ) → count ≡ min n 1 → ys ≡ xs → zs ≡ take count (flat n ∷ []) ++ drop (length ys) xs → Flattened zs n
+flattened xs ys zs n count few same are =
+    let all = ap length same in
+    let none : drop (length ys) xs ≡ [] = drop_all (length ys) xs (omega arith) in
+    elim (cases_lt 0 n) [
+      | inl some ↦
+          let one : count ≡ 1 = omega arith in
+          let whole : zs ≡ flat n ∷ [] = are ∙ ap (λ k. take k (flat n ∷ []) ++ drop (length ys) xs) one ∙ ap (λ ws. flat n ∷ ws) none in
+          let long = ap length whole in
+          record {
+            ordered = ap (λ ws. in_order 0 ws n) whole ∙ one_more 0 n (flat n) [] refl some (none_ordered n);
+            size = omega arith;
+            heights = λ c l. ap (λ ws. height_at ws c) whole ∙ height_here (flat n) [] c l;
+          }
+      | inr some ↦
+          let nothing : n ≡ 0 = omega arith in
+          let no : count ≡ 0 = omega arith in
+          let whole : zs ≡ [] = are ∙ ap (λ k. take k (flat n ∷ []) ++ drop (length ys) xs) no ∙ none in
+          let long = ap length whole in
+          record {
+            ordered = ap (λ ws. in_order 0 ws n) whole ∙ ap (in_order 0 []) nothing ∙ none_ordered 0;
+            size = omega arith;
+            heights = λ c l. absurd (omega arith);
+          }
+    ]

@@ -4,11 +4,13 @@ use Rattle.std.proofs.lemmas.List.{take-append-drop, get_or-take, length-take-le
 use Rattle.std.proofs.lemmas.Slice.{between_is}
 use Rattle.std.proofs.lemmas.Bool.{lt-ltb, le-ltb, cond-true, cond-false, cases_lt}
 use Rattle.std.proofs.lemmas.Bool.Decides.{nat_tests}
-use Rattle.rules.specs.Skylines.{Sky, Largest}
-use Rattle.skyline.specs.Spans.{part, highest_top}
+use Rattle.rules.specs.Skylines.{Largest}
+use Rattle.skyline.specs.Spans.{part, run_extent, highest_top}
 use Rattle.skyline.proofs.Tops.{top_above, top_met}
-use Rattle.steps.specs.declared.runs.Run.{Run}
-use Rattle.steps.specs.Order.{in_order, height_at, run_at, run_extent, Holds}
+use Rattle.skyline.specs.declared.spans.Run.{Run}
+use Rattle.steps.specs.declared.steps.Steps.{Steps}
+use Rattle.steps.specs.Order.{in_order, height_at, run_at, Holds, Over}
+use Rattle.steps.specs.Meaning.{runs_of, sky_of}
 use Rattle.steps.proofs.Edges.{none_ends, first_run, forward, edge, edge_start, edge_end, cut}
 
 pub height_here : (x : Run) (xs : List Run) (c : ℕ) → c < x.end → height_at (x ∷ xs) c ≡ x.top
@@ -72,7 +74,7 @@ top_height s e c (x ∷ xs) o l =
     ]
 
 -- the runs from the one that holds a to the one that holds b - 1 tell the heights between
-pub part_heights : (e first last a b : ℕ) (xs : List Run) → in_order 0 xs e ≡ true → first ≤ last → Holds xs first a → Holds xs last (b - 1)
+part_heights : (e first last a b : ℕ) (xs : List Run) → in_order 0 xs e ≡ true → first ≤ last → Holds xs first a → Holds xs last (b - 1)
     → (c : ℕ) → a ≤ c → c < b → highest_top run_extent (take ((last + 1) - first) (drop first xs)) c (c + 1) ≡ height_at xs c
 part_heights e first last a b xs o rise p q c l u =
     let ys = take (last + 1) xs in
@@ -89,13 +91,17 @@ part_heights e first last a b xs o rise p q c l u =
     ap (λ zs. highest_top run_extent zs c (c + 1)) (between_is xs first (last + 1))
     ∙ top_height _ _ c (drop first ys) halves.1 (omega (arith, p.from)) ∙ sym behind ∙ sym whole
 
--- the highest top over a span is the largest height, if over each column it is the height
-pub largest_by_columns : (s : Sky) (xs : List Run) (a b m : ℕ) → a < b → m ≡ highest_top run_extent xs a b
-    → ((c : ℕ) → a ≤ c → c < b → highest_top run_extent xs c (c + 1) ≡ s.height c) → Largest s a b m
-largest_by_columns s xs a b m some is heights =
-    let met = top_met run_extent xs a b some in
+-- the highest top of the runs that a span meets is the largest height of its columns
+pub met_largest : (s : Steps) (xs : List Run) (first last a b m : ℕ) → xs ≡ runs_of s → a < b → Over xs first last a b
+    → m ≡ highest_top run_extent (take ((last + 1) - first) (drop first xs)) a b → Largest (sky_of s) a b m
+met_largest s xs first last a b m same some over is =
+    let part = take ((last + 1) - first) (drop first xs) in
+    let ordered : in_order 0 xs s.columns ≡ true = ap (λ zs. in_order 0 zs s.columns) same ∙ s.ordered in
+    let heights : (c : ℕ) → a ≤ c → c < b → highest_top run_extent part c (c + 1) ≡ height_at (runs_of s) c
+    = λ c l u. part_heights s.columns first last a b xs ordered over.forward over.left over.right c l u ∙ ap (λ zs. height_at zs c) same in
+    let met = top_met run_extent part a b some in
     record {
-      bounds = λ c l u. omega (arith, heights c l u, top_above run_extent xs a b c l u);
+      bounds = λ c l u. omega (arith, heights c l u, top_above run_extent part a b c l u);
       met_at = met.0;
       from_a = met.1;
       to_b = met.2;

@@ -2,7 +2,7 @@
 use Rattle.std.proofs.Common.{◌≡◌, ℕ, ◌+◌, ◌-◌, ◌<◌, ◌≤◌, true, ltb, List, [], ◌∷◌, ◌++◌, take, drop, sym, refl, ap, ◌∙◌, inl, inr, add-one, arith}
 use Rattle.std.proofs.lemmas.List.{append_assoc, take-append-drop, drop_more}
 use Rattle.std.proofs.lemmas.Bool.{lt-ltb, cond-true, cond_both, ltb-true, ltb-false, cases_lt}
-use Rattle.steps.specs.declared.runs.Run.{Run}
+use Rattle.skyline.specs.declared.spans.Run.{Run}
 use Rattle.steps.specs.Order.{in_order, height_at, run_at, Holds, rest_before, rest_behind, pieces, replaced}
 use Rattle.steps.proofs.Edges.{none_ordered, one_more, append_ordered, edge, edge_start, edge_end, cut}
 use Rattle.steps.proofs.Heights.{height_here, height_next, height_front, height_rest}

@@ -1,2 +1,3 @@
-pub mod Order
 pub mod Meaning
+pub mod Order
+pub mod Used

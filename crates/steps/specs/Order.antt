@@ -1,11 +1,6 @@
 -- Runs of equal height in order, and how a raised span is put among them.
 use Rattle.std.specs.Prelude.{◌≡◌, ℕ, ◌+◌, ◌-◌, ◌<◌, ◌≤◌, Bool, cond, ◌&&◌, List, [], ◌∷◌, ◌++◌, length, take, drop, ◌==◌, nat_lt, slice_index_or}
-use Rattle.skyline.specs.Spans.{Extent}
-use Rattle.steps.specs.declared.runs.Run.{Run}
-
--- the span of a run, and its top
-abbrev pub run_extent : Run → Extent
-run_extent x = record { start = x.start; end = x.end; top = x.top }
+use Rattle.skyline.specs.declared.spans.Run.{Run}
 
 -- whether the runs go from s to e: each has a column, the first starts at s, each ends where the next starts, the last ends at e
 unfoldable pub in_order : ℕ → List Run → ℕ → Bool
@@ -33,9 +28,10 @@ pub record Over (xs : List Run) (first last a b : ℕ) : Type 0 where
   pub left : Holds xs first a
   pub right : Holds xs last (b - 1)
 
--- there are runs, each starts where the one before ends, and column c lies between the start of the first and the end of the last
+-- there are runs, each has a column and starts where the one before ends, and column c lies between the start of the first and the end of the last
 pub record Reaches (xs : List Run) (c : ℕ) : Type 0 where
   pub some : 0 < length xs
+  pub columns : (i : ℕ) → i < length xs → (run_at xs i).start < (run_at xs i).end
   pub joined : (i : ℕ) → i + 1 < length xs → (run_at xs (i + 1)).start ≡ (run_at xs i).end
   pub from : (run_at xs 0).start ≤ c
   pub to : c < (run_at xs (length xs - 1)).end

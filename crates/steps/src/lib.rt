@@ -1,5 +1,4 @@
 #![tactic(auto)]
 // A skyline over lent memory that holds each run of columns of equal height, in order.
-pub mod runs;
-mod splice;
+mod runs;
 pub mod steps;

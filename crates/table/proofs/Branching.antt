@@ -1,69 +1,29 @@
 -- The branches by links are those of the tree.
-use Rattle.std.proofs.Common.{◌≡◌, ℕ, zero, suc, ◌<◌, ◌≤◌, true, false, ◌&&◌, ◌||◌, List, [], ◌∷◌, length, sym, refl, ap, ◌∙◌, arith}
+use Rattle.std.proofs.Common.{◌≡◌, ℕ, zero, suc, ◌<◌, ◌≤◌, Bool, ◌&&◌, List, [], ◌∷◌, length, refl, ap, ◌∙◌, arith}
 use Rattle.std.proofs.lemmas.Bool.{eq-eqb, ne_eqb, lt-ltb, le-ltb, cond-true, cond-false}
 use Rattle.rules.specs.declared.blocks.Letter.{Letter}
 use Rattle.rules.specs.declared.blocks.Letter.TheVariants.{Free, Top, Bottom, Left as LeftEdge, Right as RightEdge}
 use Rattle.rules.specs.declared.edits.Side.{Side}
 use Rattle.rules.specs.declared.edits.Side.TheVariants.{Left, Right}
 use Rattle.rules.specs.Trees.{Tree, empty, node, size, leftmost, rightmost, left_foot, right_foot, no_left_child, no_right_child}
+use Rattle.rules.specs.Sides.{child_on}
 use Rattle.rules.specs.Letters.{among, letter_kept}
 use Rattle.rules.proofs.Spelling.{size_le}
 use Rattle.table.specs.declared.blocks.Block.{Block}
 use Rattle.table.specs.Tables.{at, lefts, rights, Holds}
-use Rattle.table.specs.Branches.{child, branch, branch_of, last_from, end_of, childless, foot_kept, kept_by_links}
+use Rattle.table.specs.Branches.{branch, branch_of, last_from, end_of, childless, foot_kept, kept_by_links}
 use Rattle.table.proofs.Holding.{Sp, at_most_once}
 
 -- the steps of a walk along a branch
 module _ (s : Side) (bs : List Block) where
-  pub branch_out : (f i : ℕ) → length bs ≤ i → branch s bs f i ≡ []
+  branch_out : (f i : ℕ) → length bs ≤ i → branch s bs f i ≡ []
   unfolding branch
   branch_out zero i h = refl
   branch_out (suc f) i h = cond-false _ _ _ (le-ltb i (length bs) h)
 
-  pub branch_none : (f i : ℕ) → f ≡ 0 → branch s bs f i ≡ []
-  unfolding branch
-  branch_none f i e = ap (λ g. branch s bs g i) e
-
-  pub branch_more : (f g i : ℕ) → f ≡ suc g → i < length bs → branch s bs f i ≡ i ∷ branch s bs g (child s (at bs i))
+  branch_more : (f g i : ℕ) → f ≡ suc g → i < length bs → branch s bs f i ≡ i ∷ branch s bs g (child_on s (at bs i).children)
   unfolding branch
   branch_more f g i e h = ap (λ g. branch s bs g i) e ∙ cond-true _ _ _ (lt-ltb i (length bs) h)
-
-  -- what a walk finds where the branch ends, and after one block more
-  pub last_nil : (k : ℕ) (is : List ℕ) → is ≡ [] → last_from k is ≡ k
-  unfolding last_from
-  last_nil k is e = ap (last_from k) e
-
-  pub last_more : (k f g i : ℕ) → f ≡ suc g → i < length bs → last_from k (branch s bs f i) ≡ last_from i (branch s bs g (child s (at bs i)))
-  unfolding last_from
-  last_more k f g i e h = ap (last_from k) (branch_more f g i e h)
-
-  pub among_nil : (k : ℕ) (is : List ℕ) → is ≡ [] → among k is ≡ false
-  unfolding among
-  among_nil k is e = ap (among k) e
-
-  pub among_here : (k f g i : ℕ) → f ≡ suc g → i < length bs → i ≡ k → among k (branch s bs f i) ≡ true
-  unfolding among
-  among_here k f g i e h q = ap (among k) (branch_more f g i e h) ∙ ap (λ b. b || among k (branch s bs g (child s (at bs i)))) (eq-eqb k i (sym q))
-
-  pub among_more : (k f g i : ℕ) → f ≡ suc g → i < length bs → (i ≡ k → ⊥) → among k (branch s bs f i) ≡ among k (branch s bs g (child s (at bs i)))
-  unfolding among
-  among_more k f g i e h d = ap (among k) (branch_more f g i e h) ∙ ap (λ b. b || among k (branch s bs g (child s (at bs i)))) (ne_eqb k i (λ q. d (sym q)))
-
-  module _ (o : Side) where
-    pub childless_nil : (is : List ℕ) → is ≡ [] → childless o bs is ≡ true
-    unfolding childless
-    childless_nil is e = ap (childless o bs) e
-
-    pub childless_not : (f g i : ℕ) → f ≡ suc g → i < length bs → (child o (at bs i) ≡ 65535 → ⊥) → childless o bs (branch s bs f i) ≡ false
-    unfolding childless
-    childless_not f g i e h d =
-        ap (childless o bs) (branch_more f g i e h) ∙ ap (λ b. b && childless o bs (branch s bs g (child s (at bs i)))) (ne_eqb (child o (at bs i)) 65535 d)
-
-    pub childless_more : (f g i : ℕ) → f ≡ suc g → i < length bs → child o (at bs i) ≡ 65535
-        → childless o bs (branch s bs f i) ≡ childless o bs (branch s bs g (child s (at bs i)))
-    unfolding childless
-    childless_more f g i e h q =
-        ap (childless o bs) (branch_more f g i e h) ∙ ap (λ b. b && childless o bs (branch s bs g (child s (at bs i)))) (eq-eqb (child o (at bs i)) 65535 q)
 
 -- the branches of a tree that the links spell
 
@@ -168,3 +128,7 @@ module _ {bs : List Block} {root : ℕ} {t : Tree} (h : Holds bs root t) where
   kept_by_tree LeftEdge i = ap (among i) rightmost_is
   kept_by_tree RightEdge i = bottom_left_kept i
   kept_by_tree Top i = bottom_right_kept i
+
+-- an answer by the links is one by the tree
+pub by_tree : (bs : List Block) (root i : ℕ) (letter : Letter) (r : Bool) → r ≡ kept_by_links letter i bs root → (t : Tree) → Holds bs root t → r ≡ letter_kept letter i t
+by_tree bs root i letter r e t h = e ∙ kept_by_tree h letter i

@@ -15,7 +15,7 @@ Sp bs n i t = Spells (lefts bs) (rights bs) n i t
 
 -- rows of a tree's own blocks that stay keep the tree
 pub frame_at : (bs cs : List Block) (n i : ℕ) (t : Tree) → ((m : ℕ) → 0 < count m t → at cs m ≡ at bs m) → Sp bs n i t → Sp cs n i t
-frame_at bs cs n i t h s = frame (lefts bs) (rights bs) (lefts cs) (rights cs) n i t (λ m z. (ap (λ b. b.left) (h m z), ap (λ b. b.right) (h m z))) s
+frame_at bs cs n i t h s = frame (lefts bs) (rights bs) (lefts cs) (rights cs) n i t (λ m z. (ap (λ b. b.children.left) (h m z), ap (λ b. b.children.right) (h m z))) s
 
 counted_present : (b : Bool) (n : ℕ) → n ≡ cond b 1 0 → 0 < n → b ≡ true
 counted_present true n e h = refl

@@ -5,3 +5,4 @@ pub mod Swapping
 pub mod Taking
 pub mod Putting
 pub mod Branching
+pub mod Walking

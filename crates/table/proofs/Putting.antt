@@ -1,6 +1,6 @@
 -- A block put into the tree.
 use Rattle.std.proofs.Common.{◌≡◌, ℕ, ◌<◌, ◌≤◌, Bool, true, false, cond, eqb, List, length, set, sym, refl, ap, ◌∙◌, subst, inl, inr, arith}
-use Rattle.std.proofs.lemmas.Bool.{cases_eq, eq-eqb, ne_eqb, lt-ltb, le-ltb, cond-true, cond-false}
+use Rattle.std.proofs.lemmas.Bool.{cases_eq, eq-eqb, ne_eqb, lt-ltb, cond-true, cond-false}
 use Rattle.std.proofs.lemmas.List.{length-set, get_or-set_same, get_or-set_other}
 use Rattle.rules.specs.declared.edits.Side.{Side}
 use Rattle.rules.specs.declared.edits.Side.TheVariants.{Left, Right}
@@ -13,18 +13,18 @@ use Rattle.table.proofs.Holding.{Sp, frame_at, in_tree_once, in_tree_within}
 
 module _ (bs es : List Block) (n i j : ℕ) (hi : i < n) (hj : j < n) where
   sides : (s : Side) → at es i ≡ below_by s (at bs j) (at bs i) → at es j ≡ above_by s i (at bs j)
-      → (a c : Tree) → Sp es n (at bs j).left a → Sp es n (at bs j).right c → Sp es n j (node j (left_under s i a) (right_under s i c))
+      → (a c : Tree) → Sp es n (at bs j).children.left a → Sp es n (at bs j).children.right c → Sp es n j (node j (left_under s i a) (right_under s i c))
   sides Left ei ej a c fa fc = (
     refl,
     hj,
-    (ap (λ b. b.left) ej, hi, subst (λ z. Sp es n z a) (sym (ap (λ b. b.left) ei)) fa, ap (λ b. b.right) ei),
-    subst (λ z. Sp es n z c) (sym (ap (λ b. b.right) ej)) fc,
+    (ap (λ b. b.children.left) ej, hi, subst (λ z. Sp es n z a) (sym (ap (λ b. b.children.left) ei)) fa, ap (λ b. b.children.right) ei),
+    subst (λ z. Sp es n z c) (sym (ap (λ b. b.children.right) ej)) fc,
   )
   sides Right ei ej a c fa fc = (
     refl,
     hj,
-    subst (λ z. Sp es n z a) (sym (ap (λ b. b.left) ej)) fa,
-    (ap (λ b. b.right) ej, hi, ap (λ b. b.left) ei, subst (λ z. Sp es n z c) (sym (ap (λ b. b.right) ei)) fc),
+    subst (λ z. Sp es n z a) (sym (ap (λ b. b.children.left) ej)) fa,
+    (ap (λ b. b.children.right) ej, hi, ap (λ b. b.children.left) ei, subst (λ z. Sp es n z c) (sym (ap (λ b. b.children.right) ei)) fc),
   )
 
   hanging : (s : Side) → at es i ≡ below_by s (at bs j) (at bs i) → at es j ≡ above_by s i (at bs j)
@@ -52,7 +52,7 @@ module _ (bs es : List Block) (n i j : ℕ) (hi : i < n) (hj : j < n) where
             let sa = hanging s ei ej o (lefts bs k) a (omega (arith, parts_le j k a c)) za w.2 in
             let sc = hanging s ei ej o (rights bs k) c (omega (arith, parts_le j k a c)) zc w.3 in
             subst (λ y. Sp es n x y) (sym (cond-false _ _ _ (ne_eqb k j d)))
-            (w.0, w.1, subst (λ y. Sp es n y (hang s i j a)) (sym (ap (λ b. b.left) e)) sa, subst (λ y. Sp es n y (hang s i j c)) (sym (ap (λ b. b.right) e)) sc)
+            (w.0, w.1, subst (λ y. Sp es n y (hang s i j a)) (sym (ap (λ b. b.children.left) e)) sa, subst (λ y. Sp es n y (hang s i j c)) (sym (ap (λ b. b.children.right) e)) sc)
       ]
 
 below_part : {X : Type 0} (f : Block → X) → ((l r : ℕ) (b : Block) → f (hung l r b) ≡ f b) → (s : Side) (c b : Block) → f (below_by s c b) ≡ f b
@@ -146,7 +146,7 @@ module _ (i : ℕ) (bs : List Block) where
       let here = get_or-set_same bs i (hung 65535 65535 (at bs i)) blank hi in
       record {
         few = omega arith;
-        spelt = (refl, omega arith, ap (λ b. b.left) here, ap (λ b. b.right) here);
+        spelt = (refl, omega arith, ap (λ b. b.children.left) here, ap (λ b. b.children.right) here);
         once = λ m. elim (cases_eq m i) [
           | inl q ↦
               let p : (at es m).present ≡ true = ap (λ y. (at es y).present) q ∙ ap (λ b. b.present) here in
@@ -175,18 +175,15 @@ module _ (i j : ℕ) (s : Side) (root : ℕ) (bs : List Block) where
     first_true : {X : Type 0} (x y : X) → cond (within i bs) x y ≡ x
     first_true x y = cond-true _ _ _ (lt-ltb i (length bs) hi)
 
-    pub put_alone_is : root ≡ 65535 → (alone i bs ≡ put i j s root bs) × (i ≡ put_root i root bs)
+    put_alone_is : root ≡ 65535 → (alone i bs ≡ put i j s root bs) × (i ≡ put_root i root bs)
     put_alone_is e =
         (sym (first_true _ _ ∙ cond-true _ _ _ (eq-eqb root 65535 e)), sym (first_true _ _ ∙ cond-true _ _ _ (eq-eqb root 65535 e)))
 
-    pub put_root_stays : (root ≡ 65535 → ⊥) → root ≡ put_root i root bs
+    put_root_stays : (root ≡ 65535 → ⊥) → root ≡ put_root i root bs
     put_root_stays ne = sym (first_true _ _ ∙ cond-false _ _ _ (ne_eqb root 65535 ne))
 
-    pub put_under_is : (root ≡ 65535 → ⊥) → j < length bs → under i j s bs ≡ put i j s root bs
+    put_under_is : (root ≡ 65535 → ⊥) → j < length bs → under i j s bs ≡ put i j s root bs
     put_under_is ne hj = sym (first_true _ _ ∙ cond-false _ _ _ (ne_eqb root 65535 ne) ∙ cond-true _ _ _ (lt-ltb j (length bs) hj))
-
-    pub put_nowhere_is : (root ≡ 65535 → ⊥) → length bs ≤ j → bs ≡ put i j s root bs
-    put_nowhere_is ne hj = sym (first_true _ _ ∙ cond-false _ _ _ (ne_eqb root 65535 ne) ∙ cond-false _ _ _ (le-ltb j (length bs) hj))
 
   put_in_alone : (t : Tree) → t ≡ empty → put_in i j s t ≡ node i empty empty
   unfolding put_in
@@ -209,14 +206,12 @@ module _ (i j : ℕ) (s : Side) (root : ℕ) (bs : List Block) where
         (subst (λ x. Holds (put i j s root bs) x (hang s i j t)) (put_root_stays f.known ne) (subst (λ x. Holds x root (hang s i j t)) (put_under_is f.known ne hj) r))
   ]
 
-  -- where i is no row nothing changes
-  pub put_out : length bs ≤ i → (bs ≡ put i j s root bs) × (root ≡ put_root i root bs)
-  put_out h = (sym (cond-false _ _ _ (le-ltb i (length bs) h)), sym (cond-false _ _ _ (le-ltb i (length bs) h)))
+  -- what the table with i keeps
+  pub put_in_keeps : (cs : List Block) → cs ≡ put i j s root bs → Keeps bs cs
+  put_in_keeps cs e = subst (Keeps bs) (sym e) put_keeps
 
-  -- what the table with i keeps and holds
-  pub put_gives : (cs : List Block) (r : ℕ) → cs ≡ put i j s root bs → r ≡ put_root i root bs
-      → Keeps bs cs × ((t : Tree) → Holds bs root t → FitsIn i j bs t → Holds cs r (put_in i j s t))
-  put_gives cs r e f = (
-    subst (Keeps bs) (sym e) put_keeps,
-    λ t h w. subst (λ x. Holds x r (put_in i j s t)) (sym e) (subst (λ x. Holds (put i j s root bs) x (put_in i j s t)) (sym f) (put_holds t h w)),
-  )
+  -- and the tree that it holds
+  pub put_in_holds : (cs : List Block) (r : ℕ) → cs ≡ put i j s root bs → r ≡ put_root i root bs
+      → (t : Tree) → Holds bs root t → FitsIn i j bs t → Holds cs r (put_in i j s t)
+  put_in_holds cs r e f t h w =
+      subst (λ x. Holds x r (put_in i j s t)) (sym e) (subst (λ x. Holds (put i j s root bs) x (put_in i j s t)) (sym f) (put_holds t h w))

@@ -37,9 +37,9 @@ lowered_part {X} f s (suc n) l j bs m =
     let P : List Block → Type 0 = λ cs. f (at cs m) ≡ f (at bs m) in
     let written : (r : ℕ) → P (set bs j (linked l r (at bs j))) = λ r. set_part f bs j m (linked l r (at bs j)) (s l r (at bs j)) in
     either P (ltb j (length bs)) _ _
-    (either P (eqb (at bs j).right 65535) _ _ (written (at bs j).left)
-    (either P (eqb (at bs j).left 65535) _ _ (written (at bs j).right)
-    (lowered_part f s n (at bs j).left (at bs j).right (set bs j (linked l (at bs j).right (at bs j))) m ∙ written (at bs j).right)))
+    (either P (eqb (at bs j).children.right 65535) _ _ (written (at bs j).children.left)
+    (either P (eqb (at bs j).children.left 65535) _ _ (written (at bs j).children.right)
+    (lowered_part f s n (at bs j).children.left (at bs j).children.right (set bs j (linked l (at bs j).children.right (at bs j))) m ∙ written (at bs j).children.right)))
     refl
 
 pub lowered_long : (n l j : ℕ) (bs : List Block) → length (lowered n l j bs) ≡ length bs
@@ -49,9 +49,9 @@ lowered_long (suc n) l j bs =
     let P : List Block → Type 0 = λ cs. length cs ≡ length bs in
     let written : (r : ℕ) → P (set bs j (linked l r (at bs j))) = λ r. length-set bs j (linked l r (at bs j)) in
     either P (ltb j (length bs)) _ _
-    (either P (eqb (at bs j).right 65535) _ _ (written (at bs j).left)
-    (either P (eqb (at bs j).left 65535) _ _ (written (at bs j).right)
-    (lowered_long n (at bs j).left (at bs j).right (set bs j (linked l (at bs j).right (at bs j))) ∙ written (at bs j).right)))
+    (either P (eqb (at bs j).children.right 65535) _ _ (written (at bs j).children.left)
+    (either P (eqb (at bs j).children.left 65535) _ _ (written (at bs j).children.right)
+    (lowered_long n (at bs j).children.left (at bs j).children.right (set bs j (linked l (at bs j).children.right (at bs j))) ∙ written (at bs j).children.right)))
     refl
 
 pub joined_part : {X : Type 0} (f : Block → X) → Linkless f → (l r : ℕ) (bs : List Block) (m : ℕ) → f (at (joined l r bs) m) ≡ f (at bs m)

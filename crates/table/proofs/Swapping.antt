@@ -1,6 +1,6 @@
 -- Two blocks in each other's place.
-use Rattle.std.proofs.Common.{◌≡◌, ℕ, ◌<◌, ◌≤◌, Bool, true, false, cond, ◌≢◌, ◌⊎◌, List, map, length, set, sym, refl, ap, ◌∙◌, subst, inl, inr, arith}
-use Rattle.std.proofs.lemmas.Bool.{cases_eq, lt-ltb, le-ltb, and_from, and_left, and_right, cond-true, cond-false}
+use Rattle.std.proofs.Common.{◌≡◌, ℕ, ◌<◌, Bool, true, false, cond, ◌≢◌, List, map, length, set, sym, refl, ap, ◌∙◌, subst, inl, inr, arith}
+use Rattle.std.proofs.lemmas.Bool.{cases_eq, lt-ltb, and_from, cond-true}
 use Rattle.std.proofs.lemmas.Bool.Decides.{nat_tests}
 use Rattle.std.proofs.lemmas.List.{length-set, get_or-set_same, get_or-set_other, length-map, get_or-map}
 use Rattle.rules.specs.Trees.{Tree, exchange, swap}
@@ -30,8 +30,8 @@ module _ (i j : ℕ) (bs : List Block) where
   -- a part of the rows that does not hang on the links
   crossed_part : {X : Type 0} (f : Block → X) → ((l r : ℕ) (b : Block) → f (linked l r b) ≡ f b) → (m : ℕ) → f (at (crossed i j renamed) m) ≡ f (at bs m)
   crossed_part f s m =
-      let x = linked (at renamed j).left (at renamed j).right (at renamed i) in
-      let y = linked (at renamed i).left (at renamed i).right (at renamed j) in
+      let x = linked (at renamed j).children.left (at renamed j).children.right (at renamed i) in
+      let y = linked (at renamed i).children.left (at renamed i).children.right (at renamed j) in
       let first : (k : ℕ) → f (at (set renamed i x) k) ≡ f (at renamed k) = λ k. set_part f renamed i k x (s _ _ (at renamed i)) in
       set_part f (set renamed i x) j m y (s _ _ (at renamed j) ∙ sym (first j)) ∙ first m ∙ map_part f (relinked (exchange i j)) (λ b. s _ _ b) bs m
 
@@ -57,8 +57,8 @@ module _ (i j : ℕ) (bs : List Block) where
         → at (crossed i j renamed) k ≡ linked (exchange i j (lefts bs (exchange i j k))) (exchange i j (rights bs (exchange i j k))) (at bs k)
     at_crossed k h =
         let n = length-map bs (relinked (exchange i j)) in
-        let x = linked (at renamed j).left (at renamed j).right (at renamed i) in
-        let y = linked (at renamed i).left (at renamed i).right (at renamed j) in
+        let x = linked (at renamed j).children.left (at renamed j).children.right (at renamed i) in
+        let y = linked (at renamed i).children.left (at renamed i).children.right (at renamed j) in
         let il : i < length renamed = omega arith in
         let jl : j < length (set renamed i x) = omega (arith, length-set renamed i x) in
         let ei = at_renamed i hi in
@@ -85,7 +85,7 @@ module _ (i j : ℕ) (bs : List Block) where
         let l : exchange i j k < length bs = grind (arith, nat_tests) in
         let e = at_crossed (exchange i j k) l in
         let t = exchange_twice i j k in
-        (ap (λ b. b.left) e ∙ rw t, ap (λ b. b.right) e ∙ rw t)
+        (ap (λ b. b.children.left) e ∙ rw t, ap (λ b. b.children.right) e ∙ rw t)
 
     exchanged_present : (at bs i).present ≡ true → (at bs j).present ≡ true → (k : ℕ) → (at bs (exchange i j k)).present ≡ (at bs k).present
     exchanged_present pi pj k =
@@ -113,10 +113,7 @@ module _ (i j : ℕ) (bs : List Block) where
     both_true : both_within i j bs ≡ true
     both_true = and_from _ _ (lt-ltb i (length bs) hi) (lt-ltb j (length bs) hj)
 
-    pub swapped_is : (cs : List Block) → cs ≡ renamed → crossed i j cs ≡ swapped i j bs
-    swapped_is cs e = ap (crossed i j) e ∙ sym (cond-true _ _ _ both_true)
-
-    pub swapped_root : (root : ℕ) → exchange i j root ≡ cond (both_within i j bs) (exchange i j root) root
+    swapped_root : (root : ℕ) → exchange i j root ≡ cond (both_within i j bs) (exchange i j root) root
     swapped_root root = sym (cond-true _ _ _ both_true)
 
   swapped_holds : (root : ℕ) (t : Tree) → Holds bs root t → has_both i j t
@@ -128,18 +125,12 @@ module _ (i j : ℕ) (bs : List Block) where
       subst (λ x. Holds x (cond (both_within i j bs) (exchange i j root) root) (swap i j t)) (sym (cond-true _ _ _ (both_true hi hj)))
       (subst (λ x. Holds (crossed i j renamed) x (swap i j t)) (swapped_root hi hj root) r)
 
-  not_both : (length bs ≤ i) ⊎ (length bs ≤ j) → both_within i j bs ≡ false
-  not_both (inl h) = and_left _ _ (le-ltb i (length bs) h)
-  not_both (inr h) = and_right _ _ (le-ltb j (length bs) h)
+  -- what the table after the swap keeps
+  pub swap_keeps : (cs : List Block) → cs ≡ swapped i j bs → Keeps bs cs
+  swap_keeps cs e = subst (Keeps bs) (sym e) swapped_keeps
 
-  -- where one of the two is no row nothing changes
-  pub swapped_out : (root : ℕ) → (length bs ≤ i) ⊎ (length bs ≤ j) → (bs ≡ swapped i j bs) × (root ≡ cond (both_within i j bs) (exchange i j root) root)
-  swapped_out root h = (sym (cond-false _ _ _ (not_both h)), sym (cond-false _ _ _ (not_both h)))
-
-  -- what the table after the swap keeps and holds
-  pub swapped_gives : (root : ℕ) (cs : List Block) (r : ℕ) → cs ≡ swapped i j bs → r ≡ cond (both_within i j bs) (exchange i j root) root
-      → Keeps bs cs × ((t : Tree) → Holds bs root t → has_both i j t → Holds cs r (swap i j t))
-  swapped_gives root cs r e f = (
-    subst (Keeps bs) (sym e) swapped_keeps,
-    λ t h b. subst (λ x. Holds x r (swap i j t)) (sym e) (subst (λ x. Holds (swapped i j bs) x (swap i j t)) (sym f) (swapped_holds root t h b)),
-  )
+  -- and the tree that it holds
+  pub swap_holds : (root : ℕ) (cs : List Block) (r : ℕ) → cs ≡ swapped i j bs → r ≡ cond (both_within i j bs) (exchange i j root) root
+      → (t : Tree) → Holds bs root t → has_both i j t → Holds cs r (swap i j t)
+  swap_holds root cs r e f t h b =
+      subst (λ x. Holds x r (swap i j t)) (sym e) (subst (λ x. Holds (swapped i j bs) x (swap i j t)) (sym f) (swapped_holds root t h b))

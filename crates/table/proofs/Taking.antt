@@ -1,6 +1,6 @@
 -- A block taken out of the tree.
 use Rattle.std.proofs.Common.{◌≡◌, ℕ, zero, suc, ◌+◌, ◌<◌, ◌≤◌, Bool, true, false, cond, ◌≢◌, ◌⊎◌, List, map, length, set, sym, refl, ap, ◌∙◌, subst, inl, inr, arith}
-use Rattle.std.proofs.lemmas.Bool.{cases_eq, cases_lt, eq-eqb, ne_eqb, lt-ltb, le-ltb, cond-true, cond-false}
+use Rattle.std.proofs.lemmas.Bool.{cases_eq, cases_lt, eq-eqb, ne_eqb, lt-ltb, cond-true, cond-false}
 use Rattle.std.proofs.lemmas.List.{length-set, get_or-set_same, get_or-set_other, length-map, get_or-map}
 use Rattle.rules.specs.Trees.{Tree, empty, node, count, size, join, take_out}
 use Rattle.rules.specs.Links.{Spells}
@@ -21,8 +21,8 @@ rewritten bs n k l r x y e h zx zy sx sy =
     let same : (m : ℕ) → m ≢ k → at cs m ≡ at bs m = λ m d. get_or-set_other bs k m (linked l r (at bs k)) blank d in (
       refl,
       h,
-      subst (λ z. Sp cs n z x) (sym (ap (λ b. b.left) here)) (frame_at bs cs n l x (λ m p. same m (not_in k m x zx p)) sx),
-      subst (λ z. Sp cs n z y) (sym (ap (λ b. b.right) here)) (frame_at bs cs n r y (λ m p. same m (not_in k m y zy p)) sy),
+      subst (λ z. Sp cs n z x) (sym (ap (λ b. b.children.left) here)) (frame_at bs cs n l x (λ m p. same m (not_in k m x zx p)) sx),
+      subst (λ z. Sp cs n z y) (sym (ap (λ b. b.children.right) here)) (frame_at bs cs n r y (λ m p. same m (not_in k m y zy p)) sy),
     )
 
 abbrev Lowers : List Block → List Block → ℕ → ℕ → Tree → Tree → Tree → Type 0
@@ -33,7 +33,7 @@ left_out : (bs : List Block) (k m l r : ℕ) (x y : Tree) → count m (node k x 
 left_out bs k m l r x y z = get_or-set_other bs k m (linked l r (at bs k)) blank (λ p. omega (arith, own k x y, ap (λ q. count q (node k x y)) p))
 
 lowers : (n f : ℕ) (bs : List Block) (l : ℕ) (tl : Tree) (k : ℕ) (x y : Tree) → n ≤ 512 → length bs ≡ n → size y < f
-    → Sp bs n l tl → k < n → Sp bs n (at bs k).left x → Sp bs n (at bs k).right y
+    → Sp bs n l tl → k < n → Sp bs n (at bs k).children.left x → Sp bs n (at bs k).children.right y
     → ((m : ℕ) → count m tl + count m (node k x y) ≤ 1)
     → Lowers bs (lowered f l k bs) n k tl x y
 unfolding size join
@@ -43,13 +43,13 @@ lowers n (suc f) bs l tl k x empty a b c sl kn sx sy u =
     let o = own k x empty in
     let h = u k in
     subst (λ cs. Lowers bs cs n k tl x empty) (sym (lowered_last (suc f) f l k bs refl (omega arith) sy))
-    (rewritten bs n k l (at bs k).left tl x b kn (omega arith) (omega arith) sl sx, λ m z. left_out bs k m l (at bs k).left x empty z)
+    (rewritten bs n k l (at bs k).children.left tl x b kn (omega arith) (omega arith) sl sx, λ m z. left_out bs k m l (at bs k).children.left x empty z)
 lowers n (suc f) bs l tl k empty (node j p q) a b c sl kn sx sy u =
     let o = own k empty (node j p q) in
     let h = u k in
-    let ne : (at bs k).right ≡ 65535 → ⊥ = λ e. omega (arith, sy.0, sy.1) in
+    let ne : (at bs k).children.right ≡ 65535 → ⊥ = λ e. omega (arith, sy.0, sy.1) in
     subst (λ cs. Lowers bs cs n k tl empty (node j p q)) (sym (lowered_stop (suc f) f l k bs refl (omega arith) ne sx))
-    (rewritten bs n k l (at bs k).right tl (node j p q) b kn (omega arith) (omega arith) sl sy, λ m z. left_out bs k m l (at bs k).right empty (node j p q) z)
+    (rewritten bs n k l (at bs k).children.right tl (node j p q) b kn (omega arith) (omega arith) sl sy, λ m z. left_out bs k m l (at bs k).children.right empty (node j p q) z)
 lowers n (suc f) bs l tl k (node i v w) (node j p q) a b c sl kn sx sy u =
     let x = node i v w in
     let y = node j p q in
@@ -58,27 +58,27 @@ lowers n (suc f) bs l tl k (node i v w) (node j p q) a b c sl kn sx sy u =
     let zx : count k x ≡ 0 = omega arith in
     let zy : count k y ≡ 0 = omega arith in
     let zt : count k tl ≡ 0 = omega arith in
-    let nr : (at bs k).right ≡ 65535 → ⊥ = λ e. omega (arith, sy.0, sy.1) in
-    let nl : (at bs k).left ≡ 65535 → ⊥ = λ e. omega (arith, sx.0, sx.1) in
-    let d = linked l (at bs k).right (at bs k) in
+    let nr : (at bs k).children.right ≡ 65535 → ⊥ = λ e. omega (arith, sy.0, sy.1) in
+    let nl : (at bs k).children.left ≡ 65535 → ⊥ = λ e. omega (arith, sx.0, sx.1) in
+    let d = linked l (at bs k).children.right (at bs k) in
     let bs1 = set bs k d in
     let same : (m : ℕ) → m ≢ k → at bs1 m ≡ at bs m = λ m e. get_or-set_other bs k m d blank e in
-    let sx1 = frame_at bs bs1 n (at bs k).left x (λ m e. same m (not_in k m x zx e)) sx in
-    let sy1 = frame_at bs bs1 n (at bs k).right y (λ m e. same m (not_in k m y zy e)) sy in
-    let ih = lowers n f bs1 (at bs k).left x j p q a (length-set bs k d ∙ b) (omega arith) sx1 sy1.1 sy1.2 sy1.3
+    let sx1 = frame_at bs bs1 n (at bs k).children.left x (λ m e. same m (not_in k m x zx e)) sx in
+    let sy1 = frame_at bs bs1 n (at bs k).children.right y (λ m e. same m (not_in k m y zy e)) sy in
+    let ih = lowers n f bs1 (at bs k).children.left x j p q a (length-set bs k d ∙ b) (omega arith) sx1 sy1.1 sy1.2 sy1.3
     (λ m. omega (arith, u m, parts_le m k x y)) in
-    let ih' = subst (λ z. Lowers bs1 (lowered f (at bs k).left z bs1) n j x p q) (sym sy.0) ih in
-    let cs = lowered f (at bs k).left (at bs k).right bs1 in
+    let ih' = subst (λ z. Lowers bs1 (lowered f (at bs k).children.left z bs1) n j x p q) (sym sy.0) ih in
+    let cs = lowered f (at bs k).children.left (at bs k).children.right bs1 in
     let here = ih'.1 k zy ∙ get_or-set_same bs k d blank (omega arith) in
     let st = frame_at bs cs n l tl (λ m e. ih'.1 m (omega (arith, u m, parts_le m k x y)) ∙ same m (not_in k m tl zt e)) sl in
     subst (λ cs. Lowers bs cs n k tl x y) (sym (lowered_more (suc f) f l k bs refl (omega arith) nr nl)) (
       (
         refl,
         kn,
-        subst (λ z. Sp cs n z tl) (sym (ap (λ b. b.left) here)) st,
-        (ap (λ b. b.right) here ∙ sy.0, ih'.0.1, ih'.0.2, ih'.0.3),
+        subst (λ z. Sp cs n z tl) (sym (ap (λ b. b.children.left) here)) st,
+        (ap (λ b. b.children.right) here ∙ sy.0, ih'.0.1, ih'.0.2, ih'.0.3),
       ),
-      λ m z. ih'.1 m (omega (arith, parts_le m k x y)) ∙ left_out bs k m l (at bs k).right x y z,
+      λ m z. ih'.1 m (omega (arith, parts_le m k x y)) ∙ left_out bs k m l (at bs k).children.right x y z,
     )
 
 -- the links spell one tree
@@ -94,7 +94,7 @@ unique L R n h i (node k a b) (node j c d) s z =
 
 -- the subtrees of a block of the tree
 abbrev Found : List Block → ℕ → ℕ → Tree → Type 0
-Found bs n i s = (tl : Tree) × (tr : Tree) × Sp bs n (at bs i).left tl × Sp bs n (at bs i).right tr × ((m : ℕ) → count m (node i tl tr) ≤ count m s)
+Found bs n i s = (tl : Tree) × (tr : Tree) × Sp bs n (at bs i).children.left tl × Sp bs n (at bs i).children.right tr × ((m : ℕ) → count m (node i tl tr) ≤ count m s)
 
 no_empty : (k : ℕ) → 0 < count k empty → ⊥
 unfolding count
@@ -140,11 +140,11 @@ repoint L R L' R' n i t x (node k p q) h a z e s =
 abbrev Apart : ℕ → Tree → Tree → Type 0
 Apart i tr s = (0 < count i s) ⊎ ((m : ℕ) → count m s + count m tr ≤ 1)
 
-module _ (bs : List Block) (n i : ℕ) (tr : Tree) (small : n ≤ 512) (sr : Sp bs n (at bs i).right tr) where
+module _ (bs : List Block) (n i : ℕ) (tr : Tree) (small : n ≤ 512) (sr : Sp bs n (at bs i).children.right tr) where
   subtree_le : (x : ℕ) (s : Tree) → Sp bs n x s → 0 < count i s → (m : ℕ) → count m tr ≤ count m s
   subtree_le x s z h m =
       let f = found bs n i x s z h in
-      let e = unique (lefts bs) (rights bs) n (omega arith) (at bs i).right tr f.1 sr f.3 in
+      let e = unique (lefts bs) (rights bs) n (omega arith) (at bs i).children.right tr f.1 sr f.3 in
       omega (arith, f.4 m, parts_le m i f.0 f.1, ap (count m) e)
 
   split : (k : ℕ) (a c : Tree) → (k ≡ i → ⊥) → ((m : ℕ) → count m (node k a c) ≤ 1) → Sp bs n (lefts bs k) a → Sp bs n (rights bs k) c
@@ -162,7 +162,7 @@ module _ (bs : List Block) (n i : ℕ) (tr : Tree) (small : n ≤ 512) (sr : Sp 
   ]
 
 module _ (bs es : List Block) (n i t : ℕ) (tl tr : Tree) (small : n ≤ 512) (hi : i < n)
-    (sl : Sp bs n (at bs i).left tl) (sr : Sp bs n (at bs i).right tr) (J : Sp es n t (join tl tr))
+    (sl : Sp bs n (at bs i).children.left tl) (sr : Sp bs n (at bs i).children.right tr) (J : Sp es n t (join tl tr))
     (P : (m : ℕ) → m < n → (m ≡ i → ⊥) → count m tr ≡ 0 → (lefts es m ≡ point i t (lefts bs m)) × (rights es m ≡ point i t (rights bs m))) where
   taking : (x : ℕ) (s : Tree) → ((m : ℕ) → count m s ≤ 1) → Apart i tr s → Sp bs n x s → Sp es n (point i t x) (take_out i s)
   unfolding take_out
@@ -172,8 +172,8 @@ module _ (bs es : List Block) (n i t : ℕ) (tl tr : Tree) (small : n ≤ 512) (
       let uc : (m : ℕ) → count m c ≤ 1 = λ m. omega (arith, u m, parts_le m k a c) in
       elim (cases_eq k i) [
         | inl p ↦
-            let ea = unique (lefts bs) (rights bs) n (omega arith) (at bs i).left a tl (subst (λ q. Sp bs n (lefts bs q) a) p s.2) sl in
-            let ec = unique (lefts bs) (rights bs) n (omega arith) (at bs i).right c tr (subst (λ q. Sp bs n (rights bs q) c) p s.3) sr in
+            let ea = unique (lefts bs) (rights bs) n (omega arith) (at bs i).children.left a tl (subst (λ q. Sp bs n (lefts bs q) a) p s.2) sl in
+            let ec = unique (lefts bs) (rights bs) n (omega arith) (at bs i).children.right c tr (subst (λ q. Sp bs n (rights bs q) c) p s.3) sr in
             let e1 : take_out i (node k a c) ≡ join tl tr = cond-true _ _ _ (eq-eqb k i p) ∙ cc in
             let e2 : point i t x ≡ t = cond-true _ _ _ (eq-eqb x i (s.0 ∙ p)) in
             subst (λ z. Sp es n z (take_out i (node k a c))) (sym e2) (subst (λ w. Sp es n t w) (sym e1) J)
@@ -216,10 +216,10 @@ joins bs n l r (node i v w) (node j x y) a b sl sr u =
 -- the whole edit
 module _ (i : ℕ) (bs : List Block) where
   abbrev l : ℕ
-  l = (at bs i).left
+  l = (at bs i).children.left
 
   abbrev r : ℕ
-  r = (at bs i).right
+  r = (at bs i).children.right
 
   abbrev led : List Block
   led = map (relinked (point i (heir l r))) (joined l r bs)
@@ -245,10 +245,10 @@ module _ (i : ℕ) (bs : List Block) where
       go false = record { long = refl; sizes = λ k. refl; letters = λ k. refl }
 
   module _ (hi : i < length bs) where
-    pub taken_is : taken_by i l r bs ≡ taken i bs
+    taken_is : taken_by i l r bs ≡ taken i bs
     taken_is = sym (cond-true _ _ _ (lt-ltb i (length bs) hi))
 
-    pub taken_root_is : (root : ℕ) → point i (heir l r) root ≡ taken_root i root bs
+    taken_root_is : (root : ℕ) → point i (heir l r) root ≡ taken_root i root bs
     taken_root_is root = sym (cond-true _ _ _ (lt-ltb i (length bs) hi))
 
     at_taken : (m : ℕ) → m < length bs → (m ≡ i → ⊥) → at (taken_by i l r bs) m ≡ relinked (point i (heir l r)) (at (joined l r bs) m)
@@ -277,9 +277,9 @@ module _ (i : ℕ) (bs : List Block) where
         let j = joins bs n l r tl tr small refl f.2 f.3 (λ m. omega (arith, f.4 m, ct m, parts_le m i tl tr)) in
         let zi : count i (join tl tr) ≡ 0 = omega (arith, join_count i tl tr, own i tl tr, f.4 i, ct i) in
         let J = repoint (lefts (joined l r bs)) (rights (joined l r bs)) (lefts es) (rights es) n i (heir l r) (heir l r) (join tl tr) (omega arith) hi zi
-        (λ m b c. let e = at_taken m b (not_in i m (join tl tr) zi c) in (ap (λ b. b.left) e, ap (λ b. b.right) e)) j.0 in
+        (λ m b c. let e = at_taken m b (not_in i m (join tl tr) zi c) in (ap (λ b. b.children.left) e, ap (λ b. b.children.right) e)) j.0 in
         let P : (m : ℕ) → m < n → (m ≡ i → ⊥) → count m tr ≡ 0 → (lefts es m ≡ point i (heir l r) (lefts bs m)) × (rights es m ≡ point i (heir l r) (rights bs m))
-        = λ m b d z. let e = at_taken m b d ∙ ap (relinked (point i (heir l r))) (j.1 m z) in (ap (λ b. b.left) e, ap (λ b. b.right) e) in
+        = λ m b d z. let e = at_taken m b d ∙ ap (relinked (point i (heir l r))) (j.1 m z) in (ap (λ b. b.children.left) e, ap (λ b. b.children.right) e) in
         let s = taking bs es n i (heir l r) tl tr small hi f.2 f.3 J P root t ct (inl p) h.spelt in
         record {
           few = omega (arith, by_long);
@@ -296,14 +296,12 @@ module _ (i : ℕ) (bs : List Block) where
       subst (λ x. Holds x (taken_root i root bs) (take_out i t)) (taken_is hi)
       (subst (λ x. Holds (taken_by i l r bs) x (take_out i t)) (taken_root_is hi root) (by_holds hi root t h p))
 
-  -- where i is no row nothing changes
-  pub taken_out : (root : ℕ) → length bs ≤ i → (bs ≡ taken i bs) × (root ≡ taken_root i root bs)
-  taken_out root h = (sym (cond-false _ _ _ (le-ltb i (length bs) h)), sym (cond-false _ _ _ (le-ltb i (length bs) h)))
+  -- what the table without i keeps
+  pub take_keeps : (cs : List Block) → cs ≡ taken i bs → Keeps bs cs
+  take_keeps cs e = subst (Keeps bs) (sym e) taken_keeps
 
-  -- what the table without i keeps and holds
-  pub taken_gives : (root : ℕ) (cs : List Block) (k : ℕ) → cs ≡ taken i bs → k ≡ taken_root i root bs
-      → Keeps bs cs × ((t : Tree) → Holds bs root t → 0 < count i t → Holds cs k (take_out i t))
-  taken_gives root cs k e f = (
-    subst (Keeps bs) (sym e) taken_keeps,
-    λ t h p. subst (λ x. Holds x k (take_out i t)) (sym e) (subst (λ x. Holds (taken i bs) x (take_out i t)) (sym f) (taken_holds root t h p)),
-  )
+  -- and the tree that it holds
+  pub take_holds : (root : ℕ) (cs : List Block) (k : ℕ) → cs ≡ taken i bs → k ≡ taken_root i root bs
+      → (t : Tree) → Holds bs root t → 0 < count i t → Holds cs k (take_out i t)
+  take_holds root cs k e f t h p =
+      subst (λ x. Holds x k (take_out i t)) (sym e) (subst (λ x. Holds (taken i bs) x (take_out i t)) (sym f) (taken_holds root t h p))

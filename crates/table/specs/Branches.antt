@@ -4,24 +4,15 @@ use Rattle.rules.specs.declared.blocks.Letter.{Letter}
 use Rattle.rules.specs.declared.blocks.Letter.TheVariants.{Free, Top, Bottom, Left as LeftEdge, Right as RightEdge}
 use Rattle.rules.specs.declared.edits.Side.{Side}
 use Rattle.rules.specs.declared.edits.Side.TheVariants.{Left, Right}
+use Rattle.rules.specs.Sides.{opposite, child_on}
 use Rattle.rules.specs.Letters.{among}
 use Rattle.table.specs.declared.blocks.Block.{Block}
 use Rattle.table.specs.Tables.{at}
 
--- a row's child on that side
-abbrev pub child : Side → Block → ℕ
-child Left b = b.left
-child Right b = b.right
-
--- the other side
-abbrev pub opposite : Side → Side
-opposite Left = Right
-opposite Right = Left
-
 -- the blocks from the link i on, each the child of the one before on that side, at most f of them
 unfoldable pub branch : Side → List Block → ℕ → ℕ → List ℕ
 branch s bs zero i = []
-branch s bs (suc f) i = cond (nat_lt i (length bs)) (i ∷ branch s bs f (child s (at bs i))) []
+branch s bs (suc f) i = cond (nat_lt i (length bs)) (i ∷ branch s bs f (child_on s (at bs i).children)) []
 
 -- the whole branch from the link i on
 abbrev pub branch_of : Side → List Block → ℕ → List ℕ
@@ -39,7 +30,7 @@ end_of is = last_from 65535 is
 -- no block of the list has a child on that side
 unfoldable pub childless : Side → List Block → List ℕ → Bool
 childless s bs [] = true
-childless s bs (i ∷ is) = child s (at bs i) == 65535 && childless s bs is
+childless s bs (i ∷ is) = child_on s (at bs i).children == 65535 && childless s bs is
 
 -- i is on the branch that turns off at the foot of the branch from the root on, none of whose blocks has a child on side s
 abbrev pub foot_kept : Side → ℕ → List Block → ℕ → Bool

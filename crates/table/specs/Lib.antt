@@ -1,2 +1,4 @@
 pub mod Tables
 pub mod Branches
+pub mod Walks
+pub mod Rows

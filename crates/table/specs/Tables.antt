@@ -9,7 +9,7 @@ use Rattle.table.specs.declared.blocks.Block.{Block}
 
 -- what is read behind the table's end
 abbrev pub blank : Block
-blank = record { size = record { width = 0; height = 0 }; letter = Free; left = 0; right = 0; present = false }
+blank = record { size = record { width = 0; height = 0 }; letter = Free; children = record { left = 0; right = 0 }; present = false }
 
 -- row i
 abbrev pub at : List Block → ℕ → Block
@@ -17,11 +17,11 @@ at bs i = slice_index_or bs i blank
 
 -- the left link of row i
 abbrev pub lefts : List Block → ℕ → ℕ
-lefts bs i = (at bs i).left
+lefts bs i = (at bs i).children.left
 
 -- the right link of row i
 abbrev pub rights : List Block → ℕ → ℕ
-rights bs i = (at bs i).right
+rights bs i = (at bs i).children.right
 
 -- The table holds the tree: its links from the root on spell it, and each block marked present, and no other, stands in it
 -- once.
@@ -38,11 +38,11 @@ pub record Keeps (bs cs : List Block) : Type 0 where
 
 -- the row with other links
 abbrev pub linked : ℕ → ℕ → Block → Block
-linked l r b = record { size = b.size; letter = b.letter; left = l; right = r; present = b.present }
+linked l r b = record { size = b.size; letter = b.letter; children = record { left = l; right = r }; present = b.present }
 
 -- the row with its links renamed
 abbrev pub relinked : (ℕ → ℕ) → Block → Block
-relinked f b = linked (f b.left) (f b.right) b
+relinked f b = linked (f b.children.left) (f b.children.right) b
 
 -- the table has a row i
 abbrev pub within : ℕ → List Block → Bool
@@ -59,7 +59,7 @@ has_both i j t = (0 < count i t) × (0 < count j t)
 -- rows i and j with each other's links
 abbrev pub crossed : ℕ → ℕ → List Block → List Block
 crossed i j bs =
-    slice_set (slice_set bs i (linked (at bs j).left (at bs j).right (at bs i))) j (linked (at bs i).left (at bs i).right (at bs j))
+    slice_set (slice_set bs i (linked (at bs j).children.left (at bs j).children.right (at bs i))) j (linked (at bs i).children.left (at bs i).children.right (at bs j))
 
 -- the table in which i and j have exchanged their places
 abbrev pub swapped : ℕ → ℕ → List Block → List Block
@@ -75,9 +75,9 @@ unfoldable pub lowered : ℕ → ℕ → ℕ → List Block → List Block
 lowered zero l j bs = bs
 lowered (suc f) l j bs =
     cond (nat_lt j (length bs))
-    (cond ((at bs j).right == 65535) (slice_set bs j (linked l (at bs j).left (at bs j)))
-    (cond ((at bs j).left == 65535) (slice_set bs j (linked l (at bs j).right (at bs j)))
-    (lowered f (at bs j).left (at bs j).right (slice_set bs j (linked l (at bs j).right (at bs j))))))
+    (cond ((at bs j).children.right == 65535) (slice_set bs j (linked l (at bs j).children.left (at bs j)))
+    (cond ((at bs j).children.left == 65535) (slice_set bs j (linked l (at bs j).children.right (at bs j)))
+    (lowered f (at bs j).children.left (at bs j).children.right (slice_set bs j (linked l (at bs j).children.right (at bs j))))))
     bs
 
 -- what takes the place of a block with the children l and r
@@ -90,7 +90,7 @@ joined l r bs = cond (r == 65535) bs (cond (l == 65535) bs (lowered (length bs) 
 
 -- the row of a block that is not in the tree
 abbrev pub cleared : Block → Block
-cleared b = record { size = b.size; letter = b.letter; left = 65535; right = 65535; present = false }
+cleared b = record { size = b.size; letter = b.letter; children = record { left = 65535; right = 65535 }; present = false }
 
 -- the table without i, whose children are l and r
 abbrev pub taken_by : ℕ → ℕ → ℕ → List Block → List Block
@@ -99,25 +99,25 @@ taken_by i l r bs =
 
 -- the table without i, and its root
 abbrev pub taken : ℕ → List Block → List Block
-taken i bs = cond (within i bs) (taken_by i (at bs i).left (at bs i).right bs) bs
+taken i bs = cond (within i bs) (taken_by i (at bs i).children.left (at bs i).children.right bs) bs
 
 -- the root of the table without i
 abbrev pub taken_root : ℕ → ℕ → List Block → ℕ
-taken_root i root bs = cond (within i bs) (point i (heir (at bs i).left (at bs i).right) root) root
+taken_root i root bs = cond (within i bs) (point i (heir (at bs i).children.left (at bs i).children.right) root) root
 
 -- the row of a block in the tree, over l and r
 abbrev pub hung : ℕ → ℕ → Block → Block
-hung l r b = record { size = b.size; letter = b.letter; left = l; right = r; present = true }
+hung l r b = record { size = b.size; letter = b.letter; children = record { left = l; right = r }; present = true }
 
 -- the row of a block put in under c, and that of c
 abbrev pub below_by : Side → Block → Block → Block
-below_by Left c b = hung c.left 65535 b
-below_by Right c b = hung 65535 c.right b
+below_by Left c b = hung c.children.left 65535 b
+below_by Right c b = hung 65535 c.children.right b
 
 -- the row of a block under which i is put in
 abbrev pub above_by : Side → ℕ → Block → Block
-above_by Left i c = linked i c.right c
-above_by Right i c = linked c.left i c
+above_by Left i c = linked i c.children.right c
+above_by Right i c = linked c.children.left i c
 
 -- the table with i put in under j
 abbrev pub under : ℕ → ℕ → Side → List Block → List Block

@@ -4,7 +4,8 @@ ghost use Rattle.rules.specs.Trees.{Tree, put_in};
 ghost use Rattle.table.specs.Tables.{Holds, Keeps, FitsIn, put, put_root, alone, under};
 
 use crate::blocks::Block;
-use rules::blocks::NONE;
+use crate::tables::Table;
+use rules::blocks::{Children, NONE};
 use rules::edits::Side;
 
 // Block i alone is in the tree.
@@ -13,8 +14,7 @@ fn put_alone(blocks: &mut [Block], i: u16)
     ensures { blocks.new ≡ alone i blocks.old }
 {
     let b = &mut blocks[i as usize];
-    b.left = NONE;
-    b.right = NONE;
+    b.children = Children::NONE;
     b.present = true;
 }
 
@@ -24,46 +24,32 @@ fn put_under(blocks: &mut [Block], i: u16, j: u16, side: Side)
     requires j_within { j < length blocks.old }
     ensures { blocks.new ≡ under i j side blocks.old }
 {
-    let b = blocks[i as usize];
-    let c = blocks[j as usize];
-    match side {
-        Side::Left => {
-            blocks[i as usize] = Block {
-                left: c.left,
-                right: NONE,
-                present: true,
-                ..b
-            };
-            blocks[j as usize] = Block { left: i, ..c };
-        }
-        Side::Right => {
-            blocks[i as usize] = Block {
-                left: NONE,
-                right: c.right,
-                present: true,
-                ..b
-            };
-            blocks[j as usize] = Block { right: i, ..c };
-        }
-    }
+    let mut above = blocks[j as usize];
+    let mut children = Children::NONE;
+    children.set(side, above.children.on(side));
+    above.children.set(side, i);
+    let below = &mut blocks[i as usize];
+    below.children = children;
+    below.present = true;
+    blocks[j as usize] = above;
 }
 
-// Puts i in under j on that side, or alone into an empty tree, and answers the tree's root.
-pub fn put_in(blocks: &mut [Block], root: u16, i: u16, j: u16, side: Side) -> u16
-    ensures after { blocks.new ≡ put i j side root blocks.old }
-    ensures root { result ≡ put_root i root blocks.old }
-    ensures keeps { Keeps blocks.old blocks.new }
-    ensures tree { (t : Tree) → Holds blocks.old root t → FitsIn i j blocks.old t → Holds blocks.new result (put_in i j side t) }
-{
-    if i as usize >= blocks.len() {
-        return root;
+impl Table {
+    // Puts i in under j on that side, or alone into an empty tree.
+    pub fn put_in(&mut self, i: u16, j: u16, side: Side)
+        ensures after { self.new.blocks.items ≡ put i j side self.old.root self.old.blocks.items }
+        ensures root { self.new.root ≡ put_root i self.old.root self.old.blocks.items }
+        ensures keeps { Keeps self.old.blocks.items self.new.blocks.items }
+        ensures tree { (t : Tree) → Holds self.old.blocks.items self.old.root t → FitsIn i j self.old.blocks.items t → Holds self.new.blocks.items self.new.root (put_in i j side t) }
+    {
+        if i as usize >= self.blocks.len() {
+            return;
+        }
+        if self.root == NONE {
+            put_alone(&mut self.blocks, i);
+            self.root = i;
+        } else if (j as usize) < self.blocks.len() {
+            put_under(&mut self.blocks, i, j, side);
+        }
     }
-    if root == NONE {
-        put_alone(blocks, i);
-        return i;
-    }
-    if (j as usize) < blocks.len() {
-        put_under(blocks, i, j, side);
-    }
-    root
 }

@@ -47,7 +47,7 @@ pub fn rename_links<R: Renaming>(blocks: &mut [Block], by: &R)
     ensures { blocks.new ≡ map (relinked (R.renames by.now)) blocks.old }
 {
     for b in blocks.iter_mut() {
-        b.left = by.rename(b.left);
-        b.right = by.rename(b.right);
+        b.children.left = by.rename(b.children.left);
+        b.children.right = by.rename(b.children.right);
     }
 }

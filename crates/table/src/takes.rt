@@ -5,7 +5,8 @@ ghost use Rattle.table.specs.Tables.{Holds, Keeps, lowered, heir, joined, taken,
 
 use crate::blocks::Block;
 use crate::renames::{Redirect, Renaming, rename_links};
-use rules::blocks::NONE;
+use crate::tables::Table;
+use rules::blocks::{Children, NONE};
 
 // Hangs the subtree at `first` under `start` as its left child, and what stood there under the next block of the
 // rightmost branch from `start` on, and so on to that branch's end.
@@ -14,25 +15,24 @@ fn lower(blocks: &mut [Block], first: u16, start: u16)
 {
     let mut hung = first;
     let mut under = start;
-    for step in 0..blocks.len() {
+    for _ in 0..blocks.len() {
         if under as usize >= blocks.len() {
             return;
         }
-        let b = blocks[under as usize];
-        if b.right == NONE {
-            blocks[under as usize] = Block {
+        let Children { left, right } = blocks[under as usize].children;
+        if right == NONE {
+            blocks[under as usize].children = Children {
                 left: hung,
-                right: b.left,
-                ..b
+                right: left,
             };
             return;
         }
-        blocks[under as usize] = Block { left: hung, ..b };
-        if b.left == NONE {
+        blocks[under as usize].children.left = hung;
+        if left == NONE {
             return;
         }
-        hung = b.left;
-        under = b.right;
+        hung = left;
+        under = right;
     }
 }
 
@@ -51,23 +51,24 @@ fn join(blocks: &mut [Block], left: u16, right: u16) -> u16
     raised
 }
 
-// Takes i out of the tree, and answers the tree's root.
-pub fn take_out(blocks: &mut [Block], root: u16, i: u16) -> u16
-    ensures after { blocks.new ≡ taken i blocks.old }
-    ensures root { result ≡ taken_root i root blocks.old }
-    ensures keeps { Keeps blocks.old blocks.new }
-    ensures tree { (t : Tree) → Holds blocks.old root t → 0 < count i t → Holds blocks.new result (take_out i t) }
-{
-    if i as usize >= blocks.len() {
-        return root;
+impl Table {
+    // Takes i out of the tree.
+    pub fn take_out(&mut self, i: u16)
+        ensures after { self.new.blocks.items ≡ taken i self.old.blocks.items }
+        ensures root { self.new.root ≡ taken_root i self.old.root self.old.blocks.items }
+        ensures keeps { Keeps self.old.blocks.items self.new.blocks.items }
+        ensures tree { (t : Tree) → Holds self.old.blocks.items self.old.root t → 0 < count i t → Holds self.new.blocks.items self.new.root (take_out i t) }
+    {
+        if i as usize >= self.blocks.len() {
+            return;
+        }
+        let Children { left, right } = self.blocks[i as usize].children;
+        let heir = join(&mut self.blocks, left, right);
+        let redirect = Redirect(i, heir);
+        rename_links(&mut self.blocks, &redirect);
+        let b = &mut self.blocks[i as usize];
+        b.children = Children::NONE;
+        b.present = false;
+        self.root = redirect.rename(self.root);
     }
-    let b = blocks[i as usize];
-    let t = join(blocks, b.left, b.right);
-    let redirect = Redirect(i, t);
-    rename_links(blocks, &redirect);
-    let b = &mut blocks[i as usize];
-    b.left = NONE;
-    b.right = NONE;
-    b.present = false;
-    redirect.rename(root)
 }

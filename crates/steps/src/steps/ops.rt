@@ -2,16 +2,24 @@
 ghost use Rattle.std.specs.Prelude.{◌≡◌, ℕ, ◌+◌, ◌*◌, ◌<◌, ◌≤◌, min, length};
 ghost use Rattle.rules.specs.Skylines.{Fresh, Largest};
 ghost use Rattle.steps.specs.Order.{Over};
+ghost use Rattle.steps.specs.Used.{room};
 ghost use Rattle.steps.specs.Meaning.{runs_of, sky_of, columns_over, raises_over, Put};
 
 use super::Steps;
-use crate::runs::{Met, Run};
-use crate::splice::{pieces_of, replace};
+use super::search::{last_before, place_near};
+use crate::runs::Runs;
 use rules::refusals::Refusal;
 use skyline::checks::{test_raise, test_span};
 use skyline::skylines::{MOST_COLUMNS, MOST_RAISES, Skyline};
-use skyline::spans::highest_top;
-use std::mem;
+use skyline::spans::{Run, Span, highest_top};
+
+// The runs that a span meets, from place first to place last, and the highest of their tops.
+#[derive(Clone, Copy)]
+struct Met {
+    first: usize,
+    last: usize,
+    highest: u32,
+}
 
 impl Skyline for Steps<'_> {
     ghost meaning = { λ s. sky_of s };
@@ -21,13 +29,14 @@ impl Skyline for Steps<'_> {
     }
 
     fn raises(&self) -> u32 {
-        (self.runs.len().saturating_sub(1) / 2).min(MOST_RAISES as usize) as u32
+        (self.runs.room().saturating_sub(1) / 2).min(MOST_RAISES as usize) as u32
     }
 
     fn raises_left(&self) -> u32 {
         self.left
     }
 
+    #[tactic(auto, using(crate::proofs::Edges::some_runs))]
     fn clear(&mut self) {
         let columns = self.columns;
         let raises = self.raises();
@@ -35,15 +44,11 @@ impl Skyline for Steps<'_> {
     }
 
     fn highest(&self, a: u32, b: u32) -> Result<u32, Refusal> {
-        test_span(a, b, self.columns)?;
-        let met = self.meet(a, b);
-        Ok(met.highest)
+        Ok(self.meet(test_span(a, b, self.columns)?).highest)
     }
 
     fn raise(&mut self, a: u32, b: u32, h: u32) -> Result<(), Refusal> {
-        let columns = self.columns;
-        test_span(a, b, columns)?;
-        let met = self.meet(a, b);
+        let met = self.meet(test_span(a, b, self.columns)?);
         test_raise(met.highest, h, self.left)?;
         self.left -= 1;
         let raised = Run {
@@ -57,19 +62,19 @@ impl Skyline for Steps<'_> {
 }
 
 impl<'a> Steps<'a> {
+    #[tactic(auto, using(crate::proofs::Edges::none_ordered))]
     // A cleared skyline of so many columns, at most 67,108,864, and none without memory. R is half of one less than the number of
     // runs that the memory has room for, at most 65,536.
     pub fn new(runs: &'a mut [Run], columns: u32) -> Steps<'a>
         ensures { Fresh (sky_of result) (columns_over (length runs.old) columns) (raises_over (length runs.old)) }
     {
-        let columns = if runs.len() == 0 {
+        let columns = if runs.is_empty() {
             0
         } else {
             columns.min(MOST_COLUMNS)
         };
         let mut made = Steps {
-            runs,
-            used: 0,
+            runs: Runs::over(runs),
             columns: 0,
             left: 0,
             near: 0,
@@ -82,37 +87,34 @@ impl<'a> Steps<'a> {
     // Makes one run of height 0 of so many columns, none of no columns, and allows so many raises.
     fn flatten(&mut self, columns: u32, left: u32)
         requires narrow { columns ≤ 67108864 }
-        requires room { min columns 1 + 2 * left ≤ length self.old.runs.now }
+        requires room { min columns 1 + 2 * left ≤ room self.old.runs }
         ensures columns { (sky_of self.new).columns ≡ columns }
         ensures raises { (sky_of self.new).raises ≡ (sky_of self.old).raises }
         ensures left { (sky_of self.new).left ≡ left }
         ensures height { (c : ℕ) → c < columns → (sky_of self.new).height c ≡ 0 }
     {
-        if columns == 0 {
-            self.used = 0;
-            self.columns = 0;
-            self.left = left;
-            return;
-        }
-        self.runs[0] = Run {
+        let flat = [Run {
             start: 0,
             end: columns,
             top: 0,
-        };
-        self.used = 1;
+        }];
+        let count = columns.min(1) as usize;
+        let used = self.runs.in_use().len();
+        self.runs.replace(0, used, &flat[..count]);
         self.columns = columns;
         self.left = left;
     }
 
     // Finds the runs that a span meets, and the largest height of its columns.
-    fn meet(&self, a: u32, b: u32) -> Met
-        requires nonempty { a < b }
-        requires within { b ≤ self.now.columns }
-        ensures over { Over (runs_of self.now) result.first result.last a b }
-        ensures largest { Largest (sky_of self.now) a b result.highest }
+    fn meet(&self, span: Span) -> Met
+        requires { span.end ≤ self.now.columns }
+        ensures over { Over (runs_of self.now) result.first result.last span.start span.end }
+        ensures largest { Largest (sky_of self.now) span.start span.end result.highest }
     {
-        let (first, last) = self.runs_over(a, b);
-        let highest = highest_top(&self.runs[first..last + 1], a, b);
+        let runs = self.runs.in_use();
+        let first = place_near(runs, self.near, span.start);
+        let last = last_before(runs, first, span.end);
+        let highest = highest_top(&runs[first..last + 1], span.start, span.end);
         Met {
             first,
             last,
@@ -124,32 +126,12 @@ impl<'a> Steps<'a> {
     fn put(&mut self, first: usize, last: usize, raised: Run)
         requires nonempty { raised.start < raised.end }
         requires over { Over (runs_of self.old) first last raised.start raised.end }
-        requires room { (self.old.used + 2) + 2 * self.old.left ≤ length self.old.runs.now }
+        requires room { (length (runs_of self.old) + 2) + 2 * self.old.left ≤ room self.old.runs }
         ensures columns { (sky_of self.new).columns ≡ (sky_of self.old).columns }
         ensures raises { (sky_of self.new).raises ≡ (sky_of self.old).raises }
         ensures left { (sky_of self.new).left ≡ (sky_of self.old).left }
         ensures put { Put (sky_of self.old).height (sky_of self.new).height raised }
     {
-        // the place that the run behind the raised one will have
-        let near = if self.runs[first].start < raised.start {
-            first + 2
-        } else {
-            first + 1
-        };
-        let (new, count) = pieces_of(self.runs[first], self.runs[last], raised);
-        // the memory is taken out while it is written, and an empty skyline stands in
-        let used = self.used;
-        let columns = self.columns;
-        let left = self.left;
-        self.used = 0;
-        self.columns = 0;
-        self.left = 0;
-        let runs = mem::replace(&mut self.runs, &mut []);
-        let used = replace(runs, used, first, last + 1, &new[0..count]);
-        self.runs = runs;
-        self.used = used;
-        self.columns = columns;
-        self.left = left;
-        self.near = near;
+        self.near = self.runs.put(first, last, raised);
     }
 }

@@ -1,6 +1,10 @@
-use Rattle.std.proofs.Common.{arith}
-use Rattle.columns.proofs.Levels.{largest_more}
+use Rattle.std.proofs.Common.{refl, arith}
+use Rattle.std.proofs.lemmas.List.Edits.{length-between}
+use Rattle.columns.proofs.Levels.{largest_part}
 use Rattle.columns.proofs.Columns.tallest.Goals as goal
 
-pub loop-i-preserved : goal.loop-i-preserved
-loop-i-preserved c = largest_more _ _ _ _ _ c.loop-i.invariant (omega arith) c.max-tallest.ensures
+pub returns : goal.returns
+returns c =
+    let xs = c.args.self.now.heights.now in
+    let size = length-between xs c.args.span.start c.args.span.end (omega arith) in
+    largest_part _ xs _ _ _ (omega arith) (omega arith) (λ k. refl) c.largest.ensures.bounds (c.largest.ensures.met (omega arith))

@@ -1,43 +1,53 @@
-use Rattle.std.proofs.Common.{ℕ, [], length, sym, refl, ap, ◌∙◌, arith}
+use Rattle.std.proofs.Common.{◌≡◌, [], drop, replicate, ◌++◌, ◌+◌, ◌≤◌, length, sym, refl, ap, ◌∙◌, arith, rules}
 use Rattle.rules.specs.Packing.{packed}
+use Rattle.promises.specs.Packs.{nowhere}
+use Rattle.plan.specs.Meaning.{rows, root_of}
 use Rattle.plan.specs.Sound.{plan_of}
 use Rattle.packer.specs.Places.{recorded}
-use Rattle.packer.proofs.Records.{recorded_twice}
+use Rattle.packer.specs.Ahead.{ahead}
+use Rattle.packer.proofs.Present.{rows_are}
+use Rattle.packer.proofs.Standing.{stands}
+use Rattle.packer.proofs.Records.{recorded_none}
+use Rattle.packer.proofs.Filling.{fill_start, fill_end, fill_turn, known, within, some_left, flat}
 use Rattle.packer.proofs.placing.place_all.Goals as goal
 
-pub fill-requires : goal.fill-requires
-fill-requires g c =
-    let z = c.clear.ensures in
-    let blanked = c.blank_records.ensures in
-    let n = length c.args.blocks.now in
-    record {
-      plan = c.requires.plan;
-      enough = record {
-        walk_long = c.requires.enough.walk_long;
-        records_long = omega (arith, c.blank_records.auto.places, c.requires.enough.records_long);
-        columns_wide = omega (arith, z.columns, c.requires.enough.columns_wide);
-        raises_many = omega (arith, z.raises, c.requires.enough.raises_many);
-      };
-      clear = record { columns = refl; raises = refl; left = z.left ∙ sym z.raises; height = λ k l. z.height k (omega (arith, z.columns)) };
-      blank = blanked ∙ sym (recorded_twice [] [] n c.args.places.now) ∙ ap (recorded [] n) (sym blanked);
-    }
+pub blank_records-requires : goal.blank_records-requires
+blank_records-requires g c = omega (arith, rows_are c.args.plan.now, ap length c.blocks-2.ensures, c.requires.records_long)
+
+pub loop-visit-init : goal.loop-visit-init
+loop-visit-init g c =
+    let before = c.args.places.now in
+    let n = length (rows c.args.plan.now) in
+    let blank : c.blank_records.new.places ≡ recorded [] n before =
+    c.blank_records.ensures ∙ ap (λ k. replicate k nowhere ++ drop k before) (ap length c.blocks-2.ensures) ∙ sym (recorded_none n before) in
+    fill_start (stands c.args.plan.now) (ap ahead c.into_iter-visit-iterator.ensures.into_iter_gives ∙ c.new-visit-items.ensures) c.clear.ensures blank
+
+pub place_block-place-requires : goal.place_block-place-requires
+place_block-place-requires g c =
+    let plan = stands c.args.plan.now in
+    let f = c.loop-visit.invariant in
+    let is = c.in-Some.ensures.steps in
+    record { span = within plan f is c.requires; some = some_left plan f is c.requires; low = flat plan f is c.requires }
+
+pub bounds-places-visit : goal.bounds-places-visit
+bounds-places-visit g c = known (stands c.args.plan.now) c.loop-visit.invariant c.in-Some.ensures.steps c.requires
+
+pub overflow_add-place : goal.overflow_add-place
+overflow_add-place g c =
+    let r = c.place_block-place.ensures in
+    let top = flat (stands c.args.plan.now) c.loop-visit.invariant c.in-Some.ensures.steps c.requires c.place_block-place.result.y r.rests in
+    let under : c.place_block-place.result.y + c.place_block-place.result.height ≤ 134217728 = omega (arith, top, r.high) in
+    search rules
+
+pub loop-visit-preserved : goal.loop-visit-preserved
+loop-visit-preserved g c =
+    fill_turn (stands c.args.plan.now) c.loop-visit.invariant c.in-Some.ensures.steps c.requires c.place_block-place.ensures refl (omega (arith, c.max-height.ensures))
 
 pub returns : goal.returns
 returns g c =
-    let ps = packed (plan_of c.args.blocks.now c.args.root) in
-    let n = length c.args.blocks.now in
-    let before = c.args.places.now in
-    let z = c.clear.ensures in
-    let u = c.fill.ensures.skyline in
+    let done = fill_end (stands c.args.plan.now) c.loop-visit.invariant c.in-None.ensures.steps.0 in
     record {
-      height = c.fill.ensures.height;
-      places =
-          c.fill.ensures.places ∙ ap (recorded ps n) c.blank_records.ensures ∙ recorded_twice ps [] n before
-          ∙ ap (λ (k : ℕ). recorded ps k before) (sym c.requires.plan.long);
-      skyline = record {
-        columns = u.columns ∙ z.columns;
-        raises = u.raises ∙ z.raises;
-        left = u.left ∙ z.raises;
-        height = λ k l. u.height k (omega (arith, z.columns));
-      };
+      height = done.0;
+      places = done.1 ∙ ap (λ n. recorded (packed (plan_of (rows c.args.plan.now) (root_of c.args.plan.now))) n c.args.places.now) (sym (rows_are c.args.plan.now));
+      skyline = done.2;
     }

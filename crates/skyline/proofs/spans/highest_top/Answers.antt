@@ -1,12 +1,11 @@
-use Rattle.std.proofs.Common.{ap, ◌∙◌, take_all}
-use Rattle.skyline.specs.Spans.{highest_top}
-use Rattle.skyline.proofs.Tops.{top_more}
+use Rattle.std.proofs.Common.{rules, ◌≡◌, ◌∙◌, max}
+use Rattle.std.specs.List.{fold}
+use Rattle.skyline.specs.Spans.{part}
+use Rattle.skyline.proofs.Tops.{top_fold}
 use Rattle.skyline.proofs.spans.highest_top.Goals as goal
 
-pub loop-raised-preserved : goal.loop-raised-preserved
-loop-raised-preserved g c =
-    let more = top_more g.T.Spanned.extent c.args.records.now c.loop-raised.raised-index c.raised-item.result c.args.a c.args.b c.loop-raised-test.true c.raised-item.is in
-    cc
-
 pub returns : goal.returns
-returns g c = c.loop-raised.invariant ∙ ap (λ zs. highest_top g.T.Spanned.extent zs c.args.a c.args.b) (take_all _ _ c.loop-raised-test.false)
+returns g c =
+    let e = g.T.Spanned.extent in
+    let folded : c.fold.result ≡ fold (λ m x. max (part (e x) c.args.a c.args.b) m) 0 c.args.records.now = search rules in
+    folded ∙ top_fold e c.args.records.now c.args.a c.args.b

@@ -4,23 +4,26 @@ use Rattle.table.proofs.takes.lower.Goals as goal
 
 pub returns-then-under-blocks : goal.returns-then-under-blocks
 returns-then-under-blocks c =
-    sym (lowered_out (length c.args.blocks.now - c.loop-step.step) c.loop-step.hung c.loop-step.under c.loop-step.blocks c.if-under-blocks.true) ∙ c.loop-step.invariant.0
+    let l = c.loop in
+    sym (lowered_out (length c.args.blocks.now - l.counter) l.hung l.under l.blocks c.if-under-blocks.true) ∙ l.invariant.0
 
-pub returns-then-b : goal.returns-then-b
-returns-then-b c =
-    let e : length c.args.blocks.now - c.loop-step.step ≡ suc (length c.args.blocks.now - (c.loop-step.step + 1)) = omega arith in
-    sym (lowered_last _ _ c.loop-step.hung c.loop-step.under c.loop-step.blocks e c.if-under-blocks.false c.if-b.true) ∙ c.loop-step.invariant.0
+pub returns-then-right : goal.returns-then-right
+returns-then-right c =
+    let l = c.loop in
+    let e : length c.args.blocks.now - l.counter ≡ suc (length c.args.blocks.now - (l.counter + 1)) = omega arith in
+    sym (lowered_last _ _ l.hung l.under l.blocks e c.if-under-blocks.false c.if-right.true) ∙ l.invariant.0
 
-pub returns-then-b-2 : goal.returns-then-b-2
-returns-then-b-2 c =
-    let e : length c.args.blocks.now - c.loop-step.step ≡ suc (length c.args.blocks.now - (c.loop-step.step + 1)) = omega arith in
-    sym (lowered_stop _ _ c.loop-step.hung c.loop-step.under c.loop-step.blocks e c.if-under-blocks.false c.if-b.false c.if-b-2.true) ∙ c.loop-step.invariant.0
+pub returns-then-left : goal.returns-then-left
+returns-then-left c =
+    let l = c.loop in
+    let e : length c.args.blocks.now - l.counter ≡ suc (length c.args.blocks.now - (l.counter + 1)) = omega arith in
+    sym (lowered_stop _ _ l.hung l.under l.blocks e c.if-under-blocks.false c.if-right.false c.if-left.true) ∙ l.invariant.0
 
-pub loop-step-preserved : goal.loop-step-preserved
-loop-step-preserved c =
-    let e : length c.args.blocks.now - c.loop-step.step ≡ suc (length c.args.blocks.now - (c.loop-step.step + 1)) = omega arith in
-    (sym (lowered_more _ _ c.loop-step.hung c.loop-step.under c.loop-step.blocks e c.if-under-blocks.false c.if-b.false c.if-b-2.false) ∙ c.loop-step.invariant.0, search rules)
+pub loop-preserved : goal.loop-preserved
+loop-preserved c =
+    let l = c.loop in
+    let e : length c.args.blocks.now - l.counter ≡ suc (length c.args.blocks.now - (l.counter + 1)) = omega arith in
+    (sym (lowered_more _ _ l.hung l.under l.blocks e c.if-under-blocks.false c.if-right.false c.if-left.false) ∙ l.invariant.0, search rules)
 
 pub returns : goal.returns
-returns c =
-    sym (lowered_none (length c.args.blocks.now - c.loop-step.step) c.loop-step.hung c.loop-step.under c.loop-step.blocks (omega arith)) ∙ c.loop-step.invariant.0
+returns c = sym (lowered_none (length c.args.blocks.now - c.loop.counter) c.loop.hung c.loop.under c.loop.blocks (omega arith)) ∙ c.loop.invariant.0

@@ -1,11 +1,9 @@
-use Rattle.std.proofs.Common.{ap}
+use Rattle.std.proofs.Common.{rules}
 use Rattle.theorems.proofs.Following.{follows_undo}
-use Rattle.plan.specs.Meaning.{meant, kept_next}
+use Rattle.plan.specs.Meaning.{tried_plan, before_plan, kept_next, tried_kept}
 use Rattle.plan.proofs.states.Tried.undo.Goals as goal
 
-pub returns : goal.returns
-returns c =
+pub returns-clause-told : goal.returns-clause-told
+returns-clause-told c =
     let t = c.args.self in
-    let plan = ap (λ p. meant p.table) c.settle.ensures.plan in
-    let kept = c.settle.ensures.kept in
-    record { plan = plan; kept = kept; told = follows_undo (meant t.plan.table) (meant t.before.table) _ (kept_next t) t.kept _ plan kept }
+    follows_undo (tried_plan t) (before_plan t) _ (kept_next t) (tried_kept t) _ (search rules) (search rules)

@@ -1,0 +1,12 @@
+// The block table: its rows and the root of its tree, with room for 512 blocks that is reserved when it is made.
+ghost use Rattle.std.specs.Prelude.{◌≤◌, vec_len, vec_capacity};
+
+use crate::blocks::Block;
+
+#[derive(Drop)]
+pub struct Table {
+    pub blocks: Vec<Block>,
+    pub root: u16,
+    ghost few: { vec_len blocks ≤ 512 },
+    ghost room: { 512 ≤ vec_capacity blocks },
+}
