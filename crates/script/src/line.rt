@@ -6,34 +6,50 @@ use rules::edits::Edit;
 #[derive(Clone, Copy)]
 pub enum Kind {
     Columns(u32),
-    Steps(u32, u32),
-    Placed(u32, u32),
+    Steps { columns: u32, records: u32 },
+    Placed { columns: u32, records: u32 },
 }
 
 #[derive(Clone, Copy)]
 pub enum Line {
-    // a blank line or a comment
-    Skipped,
-    // a size, a letter and a child pair behind the lists
-    Block(Size, u8, Children),
+    // what one block puts behind the lists
+    Block {
+        size: Size,
+        letter: u8,
+        children: Children,
+    },
     Size(Size),
     Letter(u8),
     Pair(Children),
-    // the root, and the number of walk records
-    Load(u16, u32),
+    // with so many walk records
+    Load {
+        root: u16,
+        walk: u32,
+    },
     Test(Edit),
     Begin(Edit),
     Keep,
     Undo,
     Report(u16),
-    // the number of walk records, and of placement records
-    Pack(u32, u32),
+    // with so many walk records and placement records
+    Pack {
+        walk: u32,
+        places: u32,
+    },
     // a new skyline
     Make(Kind),
     Clear,
-    // from a to b
-    Highest(u32, u32),
-    // from a to b to h
-    Raise(u32, u32, u32),
-    NotUnderstood,
+    Highest {
+        from: u32,
+        to: u32,
+    },
+    Raise {
+        from: u32,
+        to: u32,
+        height: u32,
+    },
 }
+
+// A line that says none of these, and is no comment and not blank.
+#[derive(Clone, Copy, PartialEq, Eq, Debug)]
+pub struct NotUnderstood;

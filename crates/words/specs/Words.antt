@@ -1,6 +1,7 @@
 -- The words of a line, and what a word says.
-use Rattle.std.specs.Prelude.{◌≡◌, ℕ, Bool, cond, ◌||◌, List, [], ◌∷◌, Some, None, codes, Option, ◌==◌}
+use Rattle.std.specs.Prelude.{◌≡◌, ℕ, Bool, false, cond, not, ◌||◌, List, [], ◌∷◌, Some, None, codes, Option, ◌==◌}
 use Rattle.std.specs.Borrow.{Bor}
+use Rattle.std.specs.List.{prefix_len}
 use Rattle.std.specs.Str.{bytes_eq}
 use Rattle.rules.specs.declared.edits.Side.{Side}
 use Rattle.rules.specs.declared.edits.Side.TheVariants.{Left, Right}
@@ -9,29 +10,47 @@ use Rattle.rules.specs.declared.edits.Side.TheVariants.{Left, Right}
 abbrev pub Word : Type 0
 Word = List ℕ
 
--- a space, a tab or a CR
-abbrev pub blank : ℕ → Bool
-blank b = b == 32 || (b == 9 || b == 13)
-
 -- byte b in front of the first word
 abbrev pub onto : ℕ → List Word → List Word
 onto b [] = (b ∷ []) ∷ []
 onto b (w ∷ ws) = (b ∷ w) ∷ ws
 
--- byte b of a word joins the word that begins straight behind it, or is a word alone
-abbrev pub joins : ℕ → List ℕ → List Word → List Word
-joins b [] ws = (b ∷ []) ∷ ws
-joins b (c ∷ cs) ws = cond (blank c) ((b ∷ []) ∷ ws) (onto b ws)
+-- where some bytes are blanks and some are marks, words of their own: a byte of any other word
+abbrev pub plain_by : (ℕ → Bool) → (ℕ → Bool) → ℕ → Bool
+plain_by blanks marks b = not (blanks b || marks b)
+
+-- byte b of a word joins the word that goes on straight behind it, or is a word alone
+abbrev pub joins_by : (ℕ → Bool) → (ℕ → Bool) → ℕ → List ℕ → List Word → List Word
+joins_by blanks marks b [] ws = (b ∷ []) ∷ ws
+joins_by blanks marks b (c ∷ cs) ws = cond (plain_by blanks marks c) (onto b ws) ((b ∷ []) ∷ ws)
+
+-- the words of a line, parted by blanks and marks
+abbrev pub words_by : (ℕ → Bool) → (ℕ → Bool) → List ℕ → List Word
+words_by blanks marks [] = []
+words_by blanks marks (b ∷ bs) =
+    cond (blanks b) (words_by blanks marks bs)
+    (cond (marks b) ((b ∷ []) ∷ words_by blanks marks bs) (joins_by blanks marks b bs (words_by blanks marks bs)))
+
+-- how many blanks a line begins with
+abbrev pub indent_by : (ℕ → Bool) → List ℕ → ℕ
+indent_by blanks bs = prefix_len blanks bs
+
+-- what the reader of a first word answers: the word and what is behind it, or none in a line of blanks
+abbrev pub FirstWordBy : (ℕ → Bool) → (ℕ → Bool) → List ℕ → Option (Bor (List ℕ) × Bor (List ℕ)) → Type 0
+FirstWordBy blanks marks line None = words_by blanks marks line ≡ []
+FirstWordBy blanks marks line (Some p) = words_by blanks marks line ≡ p.0.now ∷ words_by blanks marks p.1.now
+
+-- a space, a tab or a CR
+abbrev pub blank : ℕ → Bool
+blank b = b == 32 || (b == 9 || b == 13)
+
+-- no byte is a word of its own
+abbrev pub mark : ℕ → Bool
+mark b = false
 
 -- the words of a line, parted by blanks
 unfoldable pub words : List ℕ → List Word
-words [] = []
-words (b ∷ bs) = cond (blank b) (words bs) (joins b bs (words bs))
-
--- what the reader of a first word answers: the word and what is behind it, or none in a line of blanks
-abbrev pub FirstWord : List ℕ → Option (Bor (List ℕ) × Bor (List ℕ)) → Type 0
-FirstWord line None = words line ≡ []
-FirstWord line (Some p) = words line ≡ p.0.now ∷ words p.1.now
+words line = words_by blank mark line
 
 -- any one byte
 abbrev pub byte_of : Word → Option ℕ

@@ -1,197 +1,135 @@
 // The arguments of a command.
-ghost use Rattle.std.specs.Prelude.{◌≡◌};
-ghost use Rattle.words.specs.Arguments.{no_more, one_byte, one_block, two_blocks, two_numbers, three_numbers, blocks_and_side, one_up_to, two_up_to, block_and_up_to, number_and_up_to};
+ghost use Rattle.std.specs.Prelude.{◌≡◌, Option};
+ghost use Rattle.words.specs.Arguments.{no_more, one, two, three};
 ghost use Rattle.words.specs.Numbers.{number_of, number_up_to, block_of};
-ghost use Rattle.words.specs.Words.{words, byte_of, side_of, Taken};
+ghost use Rattle.words.specs.Words.{Word, words, byte_of, side_of, Taken};
 
-use crate::split::next_word;
-use crate::word::{block_of, byte_of, number_of, number_up_to, side_of};
+use crate::split::{Spaced, next_word};
+use crate::word::number_of;
 use rules::edits::Side;
 
+// What an argument can be, and how a word says it.
+pub trait Argument {
+    type Value: Copy;
+
+    ghost says: { Word → Option Self.Value };
+
+    fn from_word(word: &[u8]) -> Option<Self::Value>
+        ensures { result ≡ says word.now };
+}
+
+// A number of 1 to 9 decimal digits.
+pub struct Number;
+
+impl Argument for Number {
+    type Value = u32;
+
+    ghost says = { number_of };
+
+    fn from_word(word: &[u8]) -> Option<u32> {
+        number_of(word)
+    }
+}
+
+// Such a number that is at most so large.
+pub struct UpTo<const MOST: u32>;
+
+impl<const MOST: u32> Argument for UpTo<MOST> {
+    type Value = u32;
+
+    ghost says = { number_up_to MOST };
+
+    fn from_word(word: &[u8]) -> Option<u32> {
+        let n = number_of(word)?;
+        (n <= MOST).then_some(n)
+    }
+}
+
+// A block, a child or the root.
+pub struct Block;
+
+impl Argument for Block {
+    type Value = u16;
+
+    ghost says = { block_of };
+
+    fn from_word(word: &[u8]) -> Option<u16> {
+        u16::try_from(number_of(word)?).ok()
+    }
+}
+
+// Any one byte.
+pub struct Byte;
+
+impl Argument for Byte {
+    type Value = u8;
+
+    ghost says = { byte_of };
+
+    fn from_word(word: &[u8]) -> Option<u8> {
+        match word {
+            [b] => Some(*b),
+            _ => None,
+        }
+    }
+}
+
+// left or right
+impl Argument for Side {
+    type Value = Side;
+
+    ghost says = { side_of };
+
+    fn from_word(word: &[u8]) -> Option<Side> {
+        match word {
+            b"left" => Some(Side::Left),
+            b"right" => Some(Side::Right),
+            _ => None,
+        }
+    }
+}
+
 // The first argument, and the arguments behind it.
-
-pub fn number(args: &[u8]) -> Option<(u32, &[u8])>
-    ensures { Taken number_of (words args.now) result }
+#[tactic(auto, unfolding(crate::specs::Words::words))]
+pub fn first<A: Argument>(args: &[u8]) -> Option<(A::Value, &[u8])>
+    ensures { Taken A.says (words args.now) result }
 {
-    let Some((word, rest)) = next_word(args) else {
-        return None;
-    };
-    match number_of(word) {
-        Some(n) => Some((n, rest)),
-        None => None,
-    }
-}
-
-pub fn block(args: &[u8]) -> Option<(u16, &[u8])>
-    ensures { Taken block_of (words args.now) result }
-{
-    let Some((word, rest)) = next_word(args) else {
-        return None;
-    };
-    match block_of(word) {
-        Some(i) => Some((i, rest)),
-        None => None,
-    }
-}
-
-pub fn up_to(args: &[u8], most: u32) -> Option<(u32, &[u8])>
-    ensures { Taken (number_up_to most) (words args.now) result }
-{
-    let Some((word, rest)) = next_word(args) else {
-        return None;
-    };
-    match number_up_to(word, most) {
-        Some(n) => Some((n, rest)),
-        None => None,
-    }
-}
-
-pub fn byte(args: &[u8]) -> Option<(u8, &[u8])>
-    ensures { Taken byte_of (words args.now) result }
-{
-    let Some((word, rest)) = next_word(args) else {
-        return None;
-    };
-    match byte_of(word) {
-        Some(b) => Some((b, rest)),
-        None => None,
-    }
-}
-
-pub fn side(args: &[u8]) -> Option<(Side, &[u8])>
-    ensures { Taken side_of (words args.now) result }
-{
-    let Some((word, rest)) = next_word(args) else {
-        return None;
-    };
-    match side_of(word) {
-        Some(s) => Some((s, rest)),
-        None => None,
-    }
+    let (word, rest) = next_word::<Spaced>(args)?;
+    Some((A::from_word(word)?, rest))
 }
 
 // Whether no argument is left.
+#[tactic(auto, unfolding(crate::specs::Words::words))]
 pub fn no_more(args: &[u8]) -> bool
     ensures { result ≡ no_more (words args.now) }
 {
-    next_word(args).is_none()
+    next_word::<Spaced>(args).is_none()
 }
 
-// All the arguments of a command, by their forms.
+// All the arguments of a command, by what each is.
 
-pub fn one_byte(args: &[u8]) -> Option<u8>
-    ensures { result ≡ one_byte (words args.now) }
+pub fn one<A: Argument>(args: &[u8]) -> Option<A::Value>
+    ensures { result ≡ one A.says (words args.now) }
 {
-    let Some((b, rest)) = byte(args) else {
-        return None;
-    };
-    if no_more(rest) { Some(b) } else { None }
+    let (a, rest) = first::<A>(args)?;
+    no_more(rest).then_some(a)
 }
 
-pub fn one_block(args: &[u8]) -> Option<u16>
-    ensures { result ≡ one_block (words args.now) }
+pub fn two<A: Argument, B: Argument>(args: &[u8]) -> Option<(A::Value, B::Value)>
+    ensures { result ≡ two A.says B.says (words args.now) }
 {
-    let Some((i, rest)) = block(args) else {
-        return None;
-    };
-    if no_more(rest) { Some(i) } else { None }
+    let (a, rest) = first::<A>(args)?;
+    let (b, rest) = first::<B>(rest)?;
+    no_more(rest).then_some((a, b))
 }
 
-pub fn two_blocks(args: &[u8]) -> Option<(u16, u16)>
-    ensures { result ≡ two_blocks (words args.now) }
+pub fn three<A: Argument, B: Argument, C: Argument>(
+    args: &[u8],
+) -> Option<(A::Value, B::Value, C::Value)>
+    ensures { result ≡ three A.says B.says C.says (words args.now) }
 {
-    let Some((i, rest)) = block(args) else {
-        return None;
-    };
-    let Some((j, rest)) = block(rest) else {
-        return None;
-    };
-    if no_more(rest) { Some((i, j)) } else { None }
-}
-
-pub fn two_numbers(args: &[u8]) -> Option<(u32, u32)>
-    ensures { result ≡ two_numbers (words args.now) }
-{
-    let Some((w, rest)) = number(args) else {
-        return None;
-    };
-    let Some((h, rest)) = number(rest) else {
-        return None;
-    };
-    if no_more(rest) { Some((w, h)) } else { None }
-}
-
-pub fn blocks_and_side(args: &[u8]) -> Option<(u16, u16, Side)>
-    ensures { result ≡ blocks_and_side (words args.now) }
-{
-    let Some((i, rest)) = block(args) else {
-        return None;
-    };
-    let Some((j, rest)) = block(rest) else {
-        return None;
-    };
-    let Some((s, rest)) = side(rest) else {
-        return None;
-    };
-    if no_more(rest) { Some((i, j, s)) } else { None }
-}
-
-pub fn one_up_to(args: &[u8], most: u32) -> Option<u32>
-    ensures { result ≡ one_up_to most (words args.now) }
-{
-    let Some((n, rest)) = up_to(args, most) else {
-        return None;
-    };
-    if no_more(rest) { Some(n) } else { None }
-}
-
-pub fn two_up_to(args: &[u8], most: u32) -> Option<(u32, u32)>
-    ensures { result ≡ two_up_to most (words args.now) }
-{
-    let Some((m, rest)) = up_to(args, most) else {
-        return None;
-    };
-    let Some((n, rest)) = up_to(rest, most) else {
-        return None;
-    };
-    if no_more(rest) { Some((m, n)) } else { None }
-}
-
-pub fn block_and_up_to(args: &[u8], most: u32) -> Option<(u16, u32)>
-    ensures { result ≡ block_and_up_to most (words args.now) }
-{
-    let Some((i, rest)) = block(args) else {
-        return None;
-    };
-    let Some((n, rest)) = up_to(rest, most) else {
-        return None;
-    };
-    if no_more(rest) { Some((i, n)) } else { None }
-}
-
-pub fn number_and_up_to(args: &[u8], most: u32) -> Option<(u32, u32)>
-    ensures { result ≡ number_and_up_to most (words args.now) }
-{
-    let Some((c, rest)) = number(args) else {
-        return None;
-    };
-    let Some((n, rest)) = up_to(rest, most) else {
-        return None;
-    };
-    if no_more(rest) { Some((c, n)) } else { None }
-}
-
-pub fn three_numbers(args: &[u8]) -> Option<(u32, u32, u32)>
-    ensures { result ≡ three_numbers (words args.now) }
-{
-    let Some((a, rest)) = number(args) else {
-        return None;
-    };
-    let Some((b, rest)) = number(rest) else {
-        return None;
-    };
-    let Some((h, rest)) = number(rest) else {
-        return None;
-    };
-    if no_more(rest) { Some((a, b, h)) } else { None }
+    let (a, rest) = first::<A>(args)?;
+    let (b, rest) = first::<B>(rest)?;
+    let (c, rest) = first::<C>(rest)?;
+    no_more(rest).then_some((a, b, c))
 }
