@@ -2,7 +2,7 @@
 use rules::blocks::Size;
 
 // A block with its left edge.
-#[derive(Clone, Copy)]
+#[derive(Clone, Copy, Default)]
 pub struct Spot {
     pub block: u16,
     pub left: u32,

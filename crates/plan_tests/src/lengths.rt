@@ -17,16 +17,12 @@ fn wrong_lists(
     letters: usize,
     children: usize,
 ) -> Result<Lists, AllocError> {
-    let size = Size {
-        width: 0,
-        height: 0,
-    };
     let pair = Children {
         left: 9999,
         right: 9999,
     };
     Ok(Lists {
-        sizes: vec![in heap; size; sizes]?,
+        sizes: vec![in heap; Size::default(); sizes]?,
         letters: vec![in heap; b'X'; letters]?,
         children: vec![in heap; pair; children]?,
         root: 9999,
@@ -34,7 +30,7 @@ fn wrong_lists(
 }
 
 fn check_all(rt: &impl Abort, memory: &[u16], value: u16) {
-    for x in memory.iter() {
+    for x in memory {
         assert_eq!(rt; *x, value);
     }
 }

@@ -14,10 +14,7 @@ use std::process::Abort;
 use std::test::Fail;
 
 fn is_kept<P: Telling>(plan: &P, block: u16) -> bool {
-    match plan.tell(block) {
-        Ok(report) => report.kept,
-        Err(_) => false,
-    }
+    plan.tell(block).is_ok_and(|report| report.kept)
 }
 
 // Of five blocks just these are present and keep their letters.
@@ -194,12 +191,10 @@ fn check_told<P: Telling>(
     plan: &P,
     expected: &[(Letter, bool)],
 ) -> Result<(), Fail> {
-    let mut block = 0u16;
-    for (letter, kept) in expected.iter() {
+    for (block, (letter, kept)) in (0u16..).zip(expected) {
         let report = plan.tell(block)?;
         assert_eq!(rt; report.letter, *letter);
         assert_eq!(rt; report.kept, *kept, "block {block}");
-        block = block.saturating_add(1);
     }
     Ok(())
 }

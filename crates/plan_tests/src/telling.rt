@@ -39,7 +39,7 @@ pub fn check_refused<T: Drop>(
 
 // The plan has no such block.
 fn check_unknown<P: Telling>(rt: &impl Abort, plan: &P, block: u16) -> Result<(), Fail> {
-    check_refused(rt, plan.tell(block), 9, block as u32)
+    check_refused(rt, plan.tell(block), 9, u32::from(block))
 }
 
 fn check_place<P: Telling>(
@@ -49,7 +49,7 @@ fn check_place<P: Telling>(
     place: Place,
 ) -> Result<(), Fail> {
     match place {
-        Place::Out => check_refused(rt, plan.tell(block), 21, block as u32),
+        Place::Out => check_refused(rt, plan.tell(block), 21, u32::from(block)),
         _ => {
             assert_eq!(rt;
                 plan.tell(block)?.children,
@@ -63,12 +63,10 @@ fn check_place<P: Telling>(
 
 // The blocks are these, and each has its place.
 pub fn check_tree<P: Telling>(rt: &impl Abort, plan: &P, tree: &[Place]) -> Result<(), Fail> {
-    let mut block = 0u16;
-    for place in tree.iter() {
+    for (block, place) in (0u16..).zip(tree) {
         check_place(rt, plan, block, *place)?;
-        block = block.saturating_add(1);
     }
-    check_unknown(rt, plan, block)
+    check_unknown(rt, plan, u16::try_from(tree.len())?)
 }
 
 fn check_report(rt: &impl Abort, block: u16, told: Report, expected: Report) -> Result<(), Fail> {
@@ -85,12 +83,10 @@ pub fn check_reports<P: Telling>(
     plan: &P,
     reports: &[Report],
 ) -> Result<(), Fail> {
-    let mut block = 0u16;
-    for report in reports.iter() {
+    for (block, report) in (0u16..).zip(reports) {
         check_report(rt, block, plan.tell(block)?, *report)?;
-        block = block.saturating_add(1);
     }
-    check_unknown(rt, plan, block)
+    check_unknown(rt, plan, u16::try_from(reports.len())?)
 }
 
 // The blocks are these, all present, with these widths and heights.
@@ -99,15 +95,13 @@ pub fn check_sides<P: Telling>(
     plan: &P,
     sides: &[(u32, u32)],
 ) -> Result<(), Fail> {
-    let mut block = 0u16;
-    for (width, height) in sides.iter() {
+    for (block, (width, height)) in (0u16..).zip(sides) {
         let size = plan.tell(block)?.size;
         assert_eq!(rt;
             (size.width, size.height),
             (*width, *height),
             "block {block}"
         );
-        block = block.saturating_add(1);
     }
-    check_unknown(rt, plan, block)
+    check_unknown(rt, plan, u16::try_from(sides.len())?)
 }

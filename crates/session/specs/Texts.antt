@@ -1,19 +1,12 @@
 -- What the program prints of an answer.
 use Rattle.std.specs.Prelude.{ℕ, Bool, true, false, List, ◌++◌, codes, decimal}
-use Rattle.rules.specs.declared.blocks.Letter.{Letter}
-use Rattle.rules.specs.declared.blocks.Letter.TheVariants.{Free, Top, Bottom, Left, Right}
+use Rattle.rules.specs.Letters.{letter_name}
 use Rattle.rules.specs.Refusals.{refusal_text}
 use Rattle.plan.specs.declared.reports.Report.{Report}
 use Rattle.session.specs.declared.answers.Answer.{Answer}
-use Rattle.session.specs.declared.answers.Answer.TheVariants.{Loaded, Allowed, Begun, BegunEmpty, Kept, Undone, Reported, Refused, NotAllowed, Skyline, Highest, Packed, At}
-
--- a letter by its byte
-abbrev pub letter_name : Letter → List ℕ
-letter_name Free = codes "F"
-letter_name Top = codes "T"
-letter_name Bottom = codes "B"
-letter_name Left = codes "L"
-letter_name Right = codes "R"
+use Rattle.session.specs.declared.answers.Answer.TheVariants.{Loaded, Allowed, Begun, BegunEmpty, Kept, Undone, Reported, Skyline, Highest, Packed, At}
+use Rattle.session.specs.declared.answers.Denial.{Denial}
+use Rattle.session.specs.declared.answers.Denial.TheVariants.{Refused, NotAllowed}
 
 -- whether a block keeps its letter
 abbrev pub kept_name : Bool → List ℕ
@@ -38,9 +31,12 @@ answer_text (Undone n) = codes "undone " ++ decimal n
 answer_text (Reported r) = report_text r
 answer_text (Skyline c all left) = codes "skyline " ++ (decimal c ++ (codes " " ++ (decimal all ++ (codes " " ++ decimal left))))
 answer_text (Highest h) = codes "highest " ++ decimal h
-answer_text (Packed w h) = codes "packed " ++ (decimal w ++ (codes " " ++ decimal h))
+answer_text (Packed e) = codes "packed " ++ (decimal e.width ++ (codes " " ++ decimal e.height))
 answer_text (At i p) =
     codes "at " ++ (decimal i ++ (codes " " ++ (decimal p.x ++ (codes " " ++ (decimal p.y ++ (codes " " ++
     (decimal p.width ++ (codes " " ++ decimal p.height))))))))
-answer_text (Refused r) = refusal_text r
-answer_text NotAllowed = codes "not allowed"
+
+-- the line of a call that has no answer
+abbrev pub denial_text : Denial → List ℕ
+denial_text (Refused r) = refusal_text r
+denial_text NotAllowed = codes "not allowed"

@@ -1,4 +1,5 @@
-// What a call answered.
+// What a call answered, or why it has no answer.
+use packer::Extent;
 use plan::Report;
 use rules::placements::Placement;
 use rules::refusals::Refusal;
@@ -12,19 +13,34 @@ pub enum Answer {
     Kept(u32),
     Undone(u32),
     Reported(Report),
-    // C, R and r of a skyline
-    Skyline(u32, u32, u32),
+    // C, R and r
+    Skyline {
+        columns: u32,
+        raises: u32,
+        left: u32,
+    },
     Highest(u32),
-    // the width and the height of a packed plan
-    Packed(u32, u32),
+    Packed(Extent),
     // a block's number and its record
     At(usize, Placement),
+}
+
+#[derive(Clone, Copy)]
+pub enum Denial {
     Refused(Refusal),
+    // the state of the plan does not allow the call
     NotAllowed,
 }
 
-// A report as it is printed.
-#[derive(Clone, Copy)]
-pub struct ReportLine {
-    pub report: Report,
+impl From<Refusal> for Denial {
+    ghost use Rattle.std.specs.Prelude.{◌≡◌};
+    ghost use Rattle.session.specs.declared.answers.Denial.TheVariants.{Refused};
+
+    ghost from_gives = { λ refusal denial. denial ≡ Refused refusal };
+
+    fn from(refusal: Refusal) -> Denial {
+        Denial::Refused(refusal)
+    }
 }
+
+pub type Outcome = Result<Answer, Denial>;

@@ -1,17 +1,17 @@
 // The lists that a script gathers for the next load.
-use rules::blocks::{Children, Size};
+use rules::blocks::{Children, Lists, Size};
 use std::alloc::{AllocError, Global};
 
 #[derive(Drop)]
-pub struct Lists {
+pub struct Gathered {
     pub sizes: Vec<Size>,
     pub letters: Vec<u8>,
     pub children: Vec<Children>,
 }
 
-impl Lists {
-    pub fn new(heap: Global) -> Lists {
-        Lists {
+impl Gathered {
+    pub fn new(heap: Global) -> Gathered {
+        Gathered {
             sizes: Vec::new(heap),
             letters: Vec::new(heap),
             children: Vec::new(heap),
@@ -24,6 +24,16 @@ impl Lists {
         self.letters.push(letter)?;
         self.children.push(children)?;
         Ok(())
+    }
+
+    // The lists with that root.
+    pub fn under(&self, root: u16) -> Lists<'_> {
+        Lists {
+            sizes: &self.sizes,
+            letters: &self.letters,
+            children: &self.children,
+            root,
+        }
     }
 
     pub fn clear(&mut self) {

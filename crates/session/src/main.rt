@@ -3,34 +3,62 @@
 ghost use Rattle.std.specs.Prelude.{◌≡◌, ◌<◌, true, length, is_some, IfOk};
 
 mod answers;
-mod desk;
 mod lists;
 mod packs;
+mod pending;
+mod plans;
 mod skies;
 mod texts;
 
+use answers::Outcome;
+use calls::desk::Desk;
 use columns::Columns;
-use desk::Desk;
-use lists::Lists;
+use lists::Gathered;
 use packs::pack_lines;
+use pending::Pending;
 use placed::Placed;
 use plan::Settled;
-use script::line::{Kind, Line};
+use script::line::{Kind, Line, NotUnderstood};
 use script::read_line;
 use skyline::skylines::Skyline;
 use skyline::spans::Run;
 use std::io;
 use std::io::Read;
 use steps::steps::Steps;
-use words::split::next_line;
 
-// The plan in hand, the lists gathered, the number of lines read, and the lines to come.
+// The plan in hand, the lists gathered, and the lines to come.
 #[derive(Drop)]
 struct Work<'a> {
     desk: Desk,
-    lists: Lists,
-    number: usize,
-    rest: &'a [u8],
+    lists: Gathered,
+    pending: Pending<'a>,
+}
+
+fn print(rt: &HostRuntime, outcome: Outcome) -> io::Result<()> {
+    match outcome {
+        Ok(answer) => rt.println(answer),
+        Err(denial) => rt.println(denial),
+    }
+}
+
+// A call on the skyline in hand, or else on the plan: the desk after it.
+fn call<S: Skyline>(
+    rt: &HostRuntime,
+    skyline: &mut S,
+    desk: Desk,
+    lists: &mut Gathered,
+    line: Line,
+) -> io::Result<Desk> {
+    if let Some(outcome) = skies::call(skyline, line) {
+        print(rt, outcome)?;
+        return Ok(desk);
+    }
+    let (desk, outcome) = plans::call(rt.alloc(), desk, line, lists)?;
+    if let Line::Load { .. } = line {
+        lists.clear();
+    }
+    print(rt, outcome)?;
+    Ok(desk)
 }
 
 // Performs one line on the plan and the skyline in hand: the desk after it.
@@ -38,30 +66,20 @@ fn step<S: Skyline>(
     rt: &HostRuntime,
     skyline: &mut S,
     desk: Desk,
-    lists: &mut Lists,
-    number: usize,
+    lists: &mut Gathered,
     line: Line,
 ) -> io::Result<Desk> {
     match line {
-        Line::Skipped | Line::Make(_) => {}
-        Line::Block(size, letter, children) => lists.push(size, letter, children)?,
+        Line::Block {
+            size,
+            letter,
+            children,
+        } => lists.push(size, letter, children)?,
         Line::Size(size) => lists.sizes.push(size)?,
         Line::Letter(letter) => lists.letters.push(letter)?,
         Line::Pair(children) => lists.children.push(children)?,
-        Line::Pack(walk, places) => pack_lines(rt, skyline, &desk, walk, places)?,
-        Line::NotUnderstood => println!(rt; "line {number}: not understood")?,
-        call => {
-            if let Some(answer) = skies::call(skyline, call) {
-                rt.println(answer)?;
-                return Ok(desk);
-            }
-            let (desk, answer) = desk.call(rt.alloc(), call, lists)?;
-            if let Line::Load(_, _) = call {
-                lists.clear();
-            }
-            rt.println(answer)?;
-            return Ok(desk);
-        }
+        Line::Pack { walk, places } => pack_lines(rt, skyline, desk.plan(), walk, places)?,
+        line => return call(rt, skyline, desk, lists, line),
     }
     Ok(desk)
 }
@@ -72,68 +90,55 @@ fn lines<'a, S: Skyline>(
     skyline: &mut S,
     work: Work<'a>,
 ) -> io::Result<(Work<'a>, Option<Kind>)>
-    ensures { IfOk result (λ p. is_some p.1 ≡ true → length p.0.rest.now < length work.entry.rest.now) }
+    ensures { IfOk result (λ p. is_some p.1 ≡ true → length p.0.pending.rest.now < length work.entry.pending.rest.now) }
 {
     let Work {
-        desk,
-        lists,
-        number,
-        rest,
+        mut desk,
+        mut lists,
+        mut pending,
     } = work;
-    let mut desk = desk;
-    let mut lists = lists;
-    let mut number = number;
-    let mut rest = rest;
-    if number > 0 {
+    if pending.number > 0 {
         rt.println(skies::told(skyline))?;
     }
-    while let Some((text, behind)) = next_line(rest) {
-        number = number.saturating_add(1);
-        rest = behind;
-        let line = read_line(text);
-        if let Line::Make(kind) = line {
-            return Ok((
-                Work {
+    while let Some(text) = pending.next() {
+        match read_line(text) {
+            Ok(None) => {}
+            Ok(Some(Line::Make(kind))) => {
+                let work = Work {
                     desk,
                     lists,
-                    number,
-                    rest,
-                },
-                Some(kind),
-            ));
+                    pending,
+                };
+                return Ok((work, Some(kind)));
+            }
+            Ok(Some(line)) => desk = step(rt, skyline, desk, &mut lists, line)?,
+            Err(NotUnderstood) => println!(rt; "line {}: not understood", pending.number)?,
         }
-        desk = step(rt, skyline, desk, &mut lists, number, line)?;
     }
-    Ok((
-        Work {
-            desk,
-            lists,
-            number,
-            rest,
-        },
-        None,
-    ))
+    let work = Work {
+        desk,
+        lists,
+        pending,
+    };
+    Ok((work, None))
 }
 
 // Makes a skyline of that kind, tells it if the script asked for it, and goes through the lines with it.
 fn over<'a>(rt: &HostRuntime, kind: Kind, work: Work<'a>) -> io::Result<(Work<'a>, Option<Kind>)>
-    ensures { IfOk result (λ p. is_some p.1 ≡ true → length p.0.rest.now < length work.entry.rest.now) }
+    ensures { IfOk result (λ p. is_some p.1 ≡ true → length p.0.pending.rest.now < length work.entry.pending.rest.now) }
 {
     match kind {
-        Kind::Columns(c) => {
-            let mut memory = vec![in rt.alloc(); 0u32; c as usize]?;
-            let mut skyline = Columns::new(&mut memory);
-            lines(rt, &mut skyline, work)
+        Kind::Columns(columns) => {
+            let mut memory = vec![in rt.alloc(); 0u32; columns as usize]?;
+            lines(rt, &mut Columns::new(&mut memory), work)
         }
-        Kind::Steps(c, n) => {
-            let mut memory = vec![in rt.alloc(); Run::default(); n as usize]?;
-            let mut skyline = Steps::new(&mut memory, c);
-            lines(rt, &mut skyline, work)
+        Kind::Steps { columns, records } => {
+            let mut memory = vec![in rt.alloc(); Run::default(); records as usize]?;
+            lines(rt, &mut Steps::new(&mut memory, columns), work)
         }
-        Kind::Placed(c, n) => {
-            let mut memory = vec![in rt.alloc(); Run::default(); n as usize]?;
-            let mut skyline = Placed::new(&mut memory, c);
-            lines(rt, &mut skyline, work)
+        Kind::Placed { columns, records } => {
+            let mut memory = vec![in rt.alloc(); Run::default(); records as usize]?;
+            lines(rt, &mut Placed::new(&mut memory, columns), work)
         }
     }
 }
@@ -142,9 +147,11 @@ fn over<'a>(rt: &HostRuntime, kind: Kind, work: Work<'a>) -> io::Result<(Work<'a
 fn run(rt: &HostRuntime, text: &[u8]) -> io::Result<()> {
     let mut work = Work {
         desk: Desk::Settled(Settled::new(rt.alloc())?),
-        lists: Lists::new(rt.alloc()),
-        number: 0,
-        rest: text,
+        lists: Gathered::new(rt.alloc()),
+        pending: Pending {
+            rest: text,
+            number: 0,
+        },
     };
     let mut kind = Kind::Columns(0);
     loop {

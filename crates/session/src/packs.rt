@@ -1,7 +1,7 @@
 // Packing the plan in hand over the skyline in hand.
-use crate::answers::Answer;
-use crate::desk::Desk;
+use crate::answers::{Answer, Denial};
 use packer::{Spot, pack};
+use plan::Plan;
 use rules::placements::Placement;
 use skyline::skylines::Skyline;
 use std::io;
@@ -10,25 +10,17 @@ use std::io;
 pub fn pack_lines<S: Skyline>(
     rt: &HostRuntime,
     skyline: &mut S,
-    desk: &Desk,
+    plan: &Plan,
     walk: u32,
     places: u32,
 ) -> io::Result<()> {
-    let spot = Spot { block: 0, left: 0 };
-    let nowhere = Placement {
-        x: 0,
-        y: 0,
-        width: 0,
-        height: 0,
-    };
-    let mut walk = vec![in rt.alloc(); spot; walk as usize]?;
-    let mut places = vec![in rt.alloc(); nowhere; places as usize]?;
-    let plan = desk.plan();
+    let mut walk = vec![in rt.alloc(); Spot::default(); walk as usize]?;
+    let mut places = vec![in rt.alloc(); Placement::default(); places as usize]?;
     let extent = match pack(plan, skyline, &mut walk, &mut places) {
         Ok(extent) => extent,
-        Err(refusal) => return rt.println(Answer::Refused(refusal)),
+        Err(refusal) => return rt.println(Denial::from(refusal)),
     };
-    rt.println(Answer::Packed(extent.width, extent.height))?;
+    rt.println(Answer::Packed(extent))?;
     for (i, place) in places.iter().enumerate().take(plan.blocks().len()) {
         rt.println(Answer::At(i, *place))?;
     }

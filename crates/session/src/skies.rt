@@ -1,36 +1,35 @@
 // Calls on the skyline in hand.
-use crate::answers::Answer;
-use rules::refusals::Refusal;
+use crate::answers::{Answer, Denial, Outcome};
 use script::line::Line;
 use skyline::skylines::Skyline;
 
 // C, R and r.
 pub fn told<S: Skyline>(skyline: &S) -> Answer {
-    Answer::Skyline(skyline.columns(), skyline.raises(), skyline.raises_left())
-}
-
-fn highest<S: Skyline>(skyline: &S, a: u32, b: u32) -> Answer {
-    match skyline.highest(a, b) {
-        Ok(h) => Answer::Highest(h),
-        Err(refusal) => Answer::Refused(refusal),
+    Answer::Skyline {
+        columns: skyline.columns(),
+        raises: skyline.raises(),
+        left: skyline.raises_left(),
     }
 }
 
-fn raised<S: Skyline>(skyline: &mut S, a: u32, b: u32, h: u32) -> Answer {
-    match skyline.raise(a, b, h) {
-        Ok(()) => told(skyline),
-        Err(refusal) => Answer::Refused(refusal),
-    }
+fn raised<S: Skyline>(skyline: &mut S, from: u32, to: u32, height: u32) -> Outcome {
+    skyline.raise(from, to, height)?;
+    Ok(told(skyline))
 }
 
 // What a call on the skyline answers; none where the line is no such call.
-pub fn call<S: Skyline>(skyline: &mut S, line: Line) -> Option<Answer> {
+pub fn call<S: Skyline>(skyline: &mut S, line: Line) -> Option<Outcome> {
     match line {
         Line::Clear => {
             skyline.clear();
-            Some(told(skyline))
+            Some(Ok(told(skyline)))
         }
-        Line::Highest { from, to } => Some(highest(skyline, from, to)),
+        Line::Highest { from, to } => Some(
+            skyline
+                .highest(from, to)
+                .map(Answer::Highest)
+                .map_err(Denial::from),
+        ),
         Line::Raise { from, to, height } => Some(raised(skyline, from, to, height)),
         _ => None,
     }

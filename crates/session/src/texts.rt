@@ -1,23 +1,16 @@
 // An answer as the line that is printed.
 ghost use Rattle.std.specs.Prelude.{◌≡◌, Some};
-ghost use Rattle.session.specs.Texts.{letter_name, kept_name, report_text, answer_text};
+ghost use Rattle.session.specs.Texts.{kept_name, report_text, answer_text, denial_text};
 
-use crate::answers::{Answer, ReportLine};
+use crate::answers::{Answer, Denial};
+use packer::Extent;
 use plan::Report;
-use rules::blocks::Letter;
+use rules::placements::Placement;
 use std::fmt;
 
-fn letter_name(letter: Letter) -> &'static str
-    ensures { result.now ≡ letter_name letter }
-{
-    match letter {
-        Letter::Free => "F",
-        Letter::Top => "T",
-        Letter::Bottom => "B",
-        Letter::Left => "L",
-        Letter::Right => "R",
-    }
-}
+// A report as it is printed.
+#[derive(Clone, Copy)]
+struct ReportLine(Report);
 
 fn kept_name(kept: bool) -> &'static str
     ensures { result.now ≡ kept_name kept }
@@ -26,7 +19,7 @@ fn kept_name(kept: bool) -> &'static str
 }
 
 impl fmt::Display for ReportLine {
-    ghost output = { λ l. Some (report_text l.report) };
+    ghost output = { λ l. Some (report_text l.0) };
 
     fn fmt<W: fmt::Write>(&self, f: &mut fmt::Formatter<W>) -> fmt::Result {
         let Report {
@@ -34,12 +27,10 @@ impl fmt::Display for ReportLine {
             children,
             letter,
             kept,
-        } = self.report;
-        let (width, height) = (size.width, size.height);
-        let (left, right) = (children.left, children.right);
-        let letter = letter_name(letter);
+        } = self.0;
         let kept = kept_name(kept);
-        write!(f, "block {width} {height} {left} {right} {letter} {kept}")
+        write!(f, "block {} {} ", size.width, size.height)?;
+        write!(f, "{} {} {letter} {kept}", children.left, children.right)
     }
 }
 
@@ -54,17 +45,34 @@ impl fmt::Display for Answer {
             Answer::BegunEmpty => write!(f, "begun empty"),
             Answer::Kept(n) => write!(f, "kept {n}"),
             Answer::Undone(n) => write!(f, "undone {n}"),
-            Answer::Reported(report) => write!(f, "{}", ReportLine { report }),
-            Answer::Skyline(c, all, left) => write!(f, "skyline {c} {all} {left}"),
+            Answer::Reported(report) => write!(f, "{}", ReportLine(report)),
+            Answer::Skyline {
+                columns,
+                raises,
+                left,
+            } => write!(f, "skyline {columns} {raises} {left}"),
             Answer::Highest(h) => write!(f, "highest {h}"),
-            Answer::Packed(width, height) => write!(f, "packed {width} {height}"),
+            Answer::Packed(Extent { width, height }) => write!(f, "packed {width} {height}"),
             Answer::At(i, place) => {
-                let (x, y) = (place.x, place.y);
-                let (width, height) = (place.width, place.height);
+                let Placement {
+                    x,
+                    y,
+                    width,
+                    height,
+                } = place;
                 write!(f, "at {i} {x} {y} {width} {height}")
             }
-            Answer::Refused(r) => write!(f, "{r}"),
-            Answer::NotAllowed => write!(f, "not allowed"),
+        }
+    }
+}
+
+impl fmt::Display for Denial {
+    ghost output = { λ d. Some (denial_text d) };
+
+    fn fmt<W: fmt::Write>(&self, f: &mut fmt::Formatter<W>) -> fmt::Result {
+        match *self {
+            Denial::Refused(refusal) => write!(f, "{refusal}"),
+            Denial::NotAllowed => write!(f, "not allowed"),
         }
     }
 }

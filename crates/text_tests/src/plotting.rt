@@ -33,7 +33,7 @@ fn check_plot(
         ),
     }
     for (i, byte) in out.iter().enumerate() {
-        let expected = if i < bytes.len() { bytes[i] } else { b'?' };
+        let expected = bytes.get(i).copied().unwrap_or(b'?');
         assert_eq!(rt; *byte, expected);
     }
     Ok(())

@@ -51,11 +51,7 @@ pub fn check_read(rt: &impl Abort, text: &[u8], entries: &[Entry]) -> Result<(),
         Err(refusal) => assert_eq!(rt; (refusal.number(), refusal.place()), (0, 0)),
     }
     for (i, record) in records.iter().enumerate() {
-        let expected = if i < entries.len() {
-            entries[i]
-        } else {
-            BEFORE
-        };
+        let expected = entries.get(i).copied().unwrap_or(BEFORE);
         assert_eq!(rt; *record, expected);
     }
     Ok(())

@@ -26,7 +26,7 @@ fn check_written(rt: &impl Abort, entries: &[Entry], places: &[Placement], bytes
         Err(refusal) => assert_eq!(rt; (refusal.number(), refusal.place()), (0, 0)),
     }
     for (i, byte) in out.iter().enumerate() {
-        let expected = if i < bytes.len() { bytes[i] } else { b'?' };
+        let expected = bytes.get(i).copied().unwrap_or(b'?');
         assert_eq!(rt; *byte, expected);
     }
 }

@@ -3,7 +3,7 @@ use Rattle.session.proofs.lines.Given as goal
 
 -- no line makes the rest longer
 abbrev pub invariant-loop-text : goal.invariant-loop-text
-invariant-loop-text g l = length l.rest ≤ length l.initial.rest
+invariant-loop-text g l = length l.pending.rest.now ≤ length l.initial.pending.rest.now
 
 abbrev pub decreases-loop-text : goal.decreases-loop-text
-decreases-loop-text g l = length l.rest
+decreases-loop-text g l = length l.pending.rest.now

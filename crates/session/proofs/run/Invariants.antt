@@ -3,4 +3,4 @@ use Rattle.session.proofs.run.Given as goal
 
 -- each skyline that is made takes its line from the rest
 abbrev pub decreases-loop-after : goal.decreases-loop-after
-decreases-loop-after l = length l.work.rest.now
+decreases-loop-after l = length l.work.pending.rest.now
