@@ -6,10 +6,6 @@ use Rattle.loading.proofs.Spelling.{spelling}
 use Rattle.loading.proofs.Walking.{restacked, walk_start, room_for_root, walk_end, turn}
 use Rattle.loading.proofs.links.Links.reached_blocks.Goals as goal
 
-pub push_block-requires : goal.push_block-requires
-push_block-requires c = λ some.
-    omega (arith, room_for_root c.args.self.now.children.now c.args.self.now.few (spelling c.args.self.now c.requires.once) some, ap length c.over-stack.ensures.held, c.over-stack.ensures.room, c.requires.room)
-
 pub loop-block-init : goal.loop-block-init
 loop-block-init c = (
   restacked (c.push_block.ensures.held ∙ ap (added c.args.self.now.root) c.over-stack.ensures.held) (walk_start c.args.self.now.children.now c.args.self.now.few (spelling c.args.self.now c.requires.once)),
