@@ -1,5 +1,5 @@
 -- The load of a tree, refused for its many blocks or made.
-use Rattle.std.proofs.Common.{◌≡◌, ℕ, ◌<◌, ltb, List, [], length, Some, Err, Result, refl, ◌∙◌, subst}
+use Rattle.std.proofs.Common.{◌≡◌, ℕ, ◌-◌, ◌<◌, ltb, List, [], length, take, drop, Some, Err, Result, refl, ap, ◌∙◌, subst, arith}
 use Rattle.std.proofs.lemmas.Bool.{cond-true, lt-ltb}
 use Rattle.rules.specs.declared.blocks.Size.{Size}
 use Rattle.rules.specs.declared.refusals.Refusal.{Refusal}
@@ -22,3 +22,7 @@ pub loaded : (ss : List Size) (g : Given) (before after : Settled) (walk_before 
 loaded ss g before after walk_before walk_after r e load =
     let l = subst (λ (h : Given). LoadGives h before after walk_before walk_after r) e load in
     record { answer = l.answer; plan = l.plan; kept = l.kept; walk = λ reason e. refl; told = l.told }
+
+-- a part from the start, as code writes it
+pub from_start : {A : Type 0} (n : ℕ) (xs ys : List A) → take n xs ≡ ys → take (n - 0) (drop 0 xs) ≡ ys
+from_start n xs ys e = let z : n - 0 ≡ n = omega arith in ap (λ m. take m xs) z ∙ e

@@ -14,6 +14,8 @@ use Rattle.table.specs.declared.blocks.Block.{Block}
 use Rattle.table.specs.Tables.{at, blank, lefts, rights, Holds, Keeps, has_both, FitsIn}
 use Rattle.table.proofs.Rows.{set_part}
 use Rattle.rules.proofs.Spelling.{frame}
+use Rattle.plan.specs.declared.plans.Plan.{Plan as Held}
+use Rattle.plan.specs.Meaning.{meant, rows, root_of}
 use Rattle.plan.specs.Sound.{table_tree, Sound, all_fit, sizes_fit, plan_of}
 use Rattle.table.specs.Rows.{turned_row}
 use Rattle.plan.proofs.Sounds.{holds, tree_is, sound, plan_same, changed, count_is}
@@ -25,41 +27,47 @@ pub record Done (p : Plan) (bs : List Block) (root : ℕ) : Type 0 where
   pub fit : all_fit bs ≡ true
   pub plan : plan_of bs root ≡ p
 
-module _ (bs : List Block) (root : ℕ) (n : length bs ≤ 512) (s : Sound bs root) (f : all_fit bs ≡ true) where
-  pub within : (i : ℕ) → absent_refusal (plan_of bs root) i ≡ None → i < length bs
-  within i e = omega (arith, (absent_passed (plan_of bs root) i e).within, count_is bs root)
+module _ (p : Held) where
+  abbrev bs : List Block
+  bs = rows p
 
-  pub after_swap : (i j : ℕ) (cs : List Block) (r : ℕ) → pair_refusal (plan_of bs root) i j ≡ None → Keeps bs cs
-      → ((t : Tree) → Holds bs root t → has_both i j t → Holds cs r (swap i j t)) → Done (edited (Swap i j) (plan_of bs root)) cs r
+  abbrev root : ℕ
+  root = root_of p
+
+  pub within : (i : ℕ) → absent_refusal (meant p.table) i ≡ None → i < length bs
+  within i e = omega (arith, (absent_passed (meant p.table) i e).within, count_is bs root)
+
+  pub after_swap : (i j : ℕ) (cs : List Block) (r : ℕ) → pair_refusal (meant p.table) i j ≡ None → Keeps bs cs
+      → ((t : Tree) → Holds bs root t → has_both i j t → Holds cs r (swap i j t)) → Done (edited (Swap i j) (meant p.table)) cs r
   unfolding edited plan_of
   after_swap i j cs r e k h =
-      let q = pair_passed (plan_of bs root) i j e in
-      let c = changed {root = root} f k (h (table_tree bs root) (holds n s) (q.0.stands, q.1.stands)) in
+      let q = pair_passed (meant p.table) i j e in
+      let c = changed {root = root} p.fit k (h (table_tree bs root) (holds p.table.few p.sound) (q.0.stands, q.1.stands)) in
       record { sound = c.sound; fit = c.fit; plan = c.plan }
 
-  pub after_take : (i : ℕ) (cs : List Block) (r : ℕ) → absent_refusal (plan_of bs root) i ≡ None → Keeps bs cs
-      → ((t : Tree) → Holds bs root t → 0 < count i t → Holds cs r (take_out i t)) → Done (edited (TakeOut i) (plan_of bs root)) cs r
+  pub after_take : (i : ℕ) (cs : List Block) (r : ℕ) → absent_refusal (meant p.table) i ≡ None → Keeps bs cs
+      → ((t : Tree) → Holds bs root t → 0 < count i t → Holds cs r (take_out i t)) → Done (edited (TakeOut i) (meant p.table)) cs r
   unfolding edited plan_of
   after_take i cs r e k h =
-      let c = changed {root = root} f k (h (table_tree bs root) (holds n s) (absent_passed (plan_of bs root) i e).stands) in
+      let c = changed {root = root} p.fit k (h (table_tree bs root) (holds p.table.few p.sound) (absent_passed (meant p.table) i e).stands) in
       record { sound = c.sound; fit = c.fit; plan = c.plan }
 
-  under : (j : ℕ) → (table_tree bs root ≡ empty) ⊎ There (plan_of bs root) j → (table_tree bs root ≡ empty → ⊥) → 0 < count j (table_tree bs root)
+  under : (j : ℕ) → (table_tree bs root ≡ empty) ⊎ There (meant p.table) j → (table_tree bs root ≡ empty → ⊥) → 0 < count j (table_tree bs root)
   unfolding plan_of
   under j (inl e) ne = absurd (ne e)
   under j (inr h) ne = h.stands
 
-  fits_in : (i j : ℕ) → put_refusal (plan_of bs root) i j ≡ None → FitsIn i j bs (table_tree bs root)
+  fits_in : (i j : ℕ) → put_refusal (meant p.table) i j ≡ None → FitsIn i j bs (table_tree bs root)
   unfolding plan_of
   fits_in i j e =
-      let q = put_passed (plan_of bs root) i j e in
+      let q = put_passed (meant p.table) i j e in
       record { known = omega (arith, q.within, count_is bs root); absent = q.out; under_present = under j q.under }
 
-  pub after_put : (i j : ℕ) (side : Side) (cs : List Block) (r : ℕ) → put_refusal (plan_of bs root) i j ≡ None → Keeps bs cs
-      → ((t : Tree) → Holds bs root t → FitsIn i j bs t → Holds cs r (put_in i j side t)) → Done (edited (PutIn i j side) (plan_of bs root)) cs r
+  pub after_put : (i j : ℕ) (side : Side) (cs : List Block) (r : ℕ) → put_refusal (meant p.table) i j ≡ None → Keeps bs cs
+      → ((t : Tree) → Holds bs root t → FitsIn i j bs t → Holds cs r (put_in i j side t)) → Done (edited (PutIn i j side) (meant p.table)) cs r
   unfolding edited plan_of
   after_put i j side cs r e k h =
-      let c = changed {root = root} f k (h (table_tree bs root) (holds n s) (fits_in i j e)) in
+      let c = changed {root = root} p.fit k (h (table_tree bs root) (holds p.table.few p.sound) (fits_in i j e)) in
       record { sound = c.sound; fit = c.fit; plan = c.plan }
 
 -- turn
@@ -104,9 +112,9 @@ module _ (bs : List Block) (root i : ℕ) (n : length bs ≤ 512) (s : Sound bs 
       map-set (λ b. b.letter) bs i (turned_row (at bs i))
       ∙ ap (set (map (λ b. b.letter) bs) i) (sym (get_or-map (λ b. b.letter) bs i blank Free hi)) ∙ set-get_or (map (λ b. b.letter) bs) i Free
 
-  pub after_turn : (ds : List Block) (r : ℕ) → ds ≡ cs → r ≡ root → Done (edited (Turn i) (plan_of bs root)) ds r
+  turn_done : (ds : List Block) (r : ℕ) → ds ≡ cs → r ≡ root → Done (edited (Turn i) (plan_of bs root)) ds r
   unfolding edited plan_of
-  after_turn ds r e q =
+  turn_done ds r e q =
       let done : Done (edited (Turn i) (plan_of bs root)) cs root
       = record {
         sound = sound turned_holds;
@@ -114,3 +122,7 @@ module _ (bs : List Block) (root i : ℕ) (n : length bs ≤ 512) (s : Sound bs 
         plan = plan_same (plan_of cs root) (edited (Turn i) (plan_of bs root)) turned_sizes turned_letters (tree_is turned_holds);
       } in
       subst (λ x. Done (edited (Turn i) (plan_of bs root)) x r) (sym e) (subst (λ x. Done (edited (Turn i) (plan_of bs root)) cs x) (sym q) done)
+
+pub after_turn : (p : Held) (i : ℕ) (ds : List Block) (r : ℕ) → absent_refusal (meant p.table) i ≡ None
+    → ds ≡ set (rows p) i (turned_row (at (rows p) i)) → r ≡ root_of p → Done (edited (Turn i) (meant p.table)) ds r
+after_turn p i ds r e = turn_done (rows p) (root_of p) i p.table.few p.sound p.fit (within p i e) ds r

@@ -1,5 +1,5 @@
 -- What the table says of a block is what the plan says.
-use Rattle.std.proofs.Common.{◌≡◌, ℕ, ◌<◌, ◌≤◌, Bool, List, map, length, sym, ap, ◌∙◌, inl, inr, arith}
+use Rattle.std.proofs.Common.{◌≡◌, ℕ, ◌<◌, ◌≤◌, Bool, List, map, length, None, sym, ap, ◌∙◌, inl, inr, arith}
 use Rattle.std.proofs.lemmas.Bool.{cases_eq, cases_lt, eq-eqb, ne_eqb, lt-ltb, le-ltb, cond-true, cond-false}
 use Rattle.std.proofs.lemmas.List.{get_or-map}
 use Rattle.rules.specs.declared.blocks.Children.{Children}
@@ -15,6 +15,11 @@ use Rattle.plan.specs.declared.reports.Report.{Report}
 use Rattle.plan.specs.Sound.{table_tree, Sound, plan_of}
 use Rattle.plan.specs.Reports.{top_of, children_in, report_of}
 use Rattle.plan.proofs.Sounds.{holds}
+use Rattle.plan.proofs.Changes.{within}
+use Rattle.theorems.proofs.Passed.{absent_passed}
+use Rattle.plan.specs.declared.plans.Plan.{Plan as Held}
+use Rattle.plan.specs.Meaning.{meant, rows, root_of}
+use Rattle.rules.specs.Edits.{absent_refusal}
 
 top_is : (bs : List Block) (n i : ℕ) (t : Tree) → Sp bs n i t → top_of t ≡ i
 top_is bs n i empty s = sym s
@@ -40,15 +45,20 @@ children_are bs n x i (node k l r) s h = elim (cases_eq k i) [
   ]
 ]
 
-module _ (bs : List Block) (root i : ℕ) (n : length bs ≤ 512) (s : Sound bs root) (hi : i < length bs) (hc : 0 < count i (table_tree bs root)) where
-  pub report_is : (b : Block) (kept : Bool) → b ≡ at bs i → ((t : Tree) → Holds bs root t → kept ≡ letter_kept b.letter i t)
-      → ◌≡◌ {A = Report} (record { size = b.size; children = b.children; letter = b.letter; kept = kept }) (report_of (plan_of bs root) i)
-  unfolding plan_of
-  report_is b kept e k =
-      let h = holds n s in
-      let sizes : size_at (map (λ b. b.size) bs) i ≡ (at bs i).size = get_or-map (λ b. b.size) bs i blank (record { width = 0; height = 0 }) hi in
-      let letters : letter_at (map (λ b. b.letter) bs) i ≡ (at bs i).letter = get_or-map (λ b. b.letter) bs i blank Free hi in
-      let kids : children_in i (table_tree bs root) ≡ links bs i = children_are bs (length bs) root i (table_tree bs root) h.spelt hc in
-      let keeps : kept ≡ letter_kept (letter_at (map (λ b. b.letter) bs) i) i (table_tree bs root)
-      = k (table_tree bs root) h ∙ ap (λ l. letter_kept l i (table_tree bs root)) (ap (λ b. b.letter) e ∙ sym letters) in
-      cc
+-- the report of a block of the table is the plan's
+pub report_is : (p : Held) (i : ℕ) (b : Block) (kept : Bool) → absent_refusal (meant p.table) i ≡ None → b ≡ at (rows p) i
+    → ((t : Tree) → Holds (rows p) (root_of p) t → kept ≡ letter_kept b.letter i t)
+    → ◌≡◌ {A = Report} (record { size = b.size; children = b.children; letter = b.letter; kept = kept }) (report_of (meant p.table) i)
+unfolding plan_of
+report_is p i b kept passed e k =
+    let bs = rows p in
+    let root = root_of p in
+    let h = holds p.table.few p.sound in
+    let hi = within p i passed in
+    let hc = (absent_passed (meant p.table) i passed).stands in
+    let sizes : size_at (map (λ b. b.size) bs) i ≡ (at bs i).size = get_or-map (λ b. b.size) bs i blank (record { width = 0; height = 0 }) hi in
+    let letters : letter_at (map (λ b. b.letter) bs) i ≡ (at bs i).letter = get_or-map (λ b. b.letter) bs i blank Free hi in
+    let kids : children_in i (table_tree bs root) ≡ links bs i = children_are bs (length bs) root i (table_tree bs root) h.spelt hc in
+    let keeps : kept ≡ letter_kept (letter_at (map (λ b. b.letter) bs) i) i (table_tree bs root)
+    = k (table_tree bs root) h ∙ ap (λ l. letter_kept l i (table_tree bs root)) (ap (λ b. b.letter) e ∙ sym letters) in
+    cc

@@ -2,13 +2,14 @@
 use Rattle.std.proofs.Common.{◌≡◌, ℕ, ◌<◌, ◌≤◌, Bool, true, false, cond, eqb, List, length, set, sym, refl, ap, ◌∙◌, subst, inl, inr, arith}
 use Rattle.std.proofs.lemmas.Bool.{cases_eq, eq-eqb, ne_eqb, lt-ltb, cond-true, cond-false}
 use Rattle.std.proofs.lemmas.List.{length-set, get_or-set_same, get_or-set_other}
+use Rattle.rules.specs.declared.blocks.Children.{Children}
 use Rattle.rules.specs.declared.edits.Side.{Side}
 use Rattle.rules.specs.declared.edits.Side.TheVariants.{Left, Right}
 use Rattle.rules.specs.Trees.{Tree, empty, node, count, left_under, right_under, hang, put_in}
 use Rattle.rules.proofs.Counts.{own, others, parts_le, not_in, no_count, hang_count, put_in_hang}
 use Rattle.table.specs.declared.blocks.Block.{Block}
-use Rattle.table.specs.Tables.{at, blank, lefts, rights, linked, hung, below_by, above_by, under, alone, put, put_root, within, Holds, Keeps, FitsIn}
-use Rattle.table.proofs.Rows.{set_part}
+use Rattle.table.specs.Tables.{at, blank, lefts, rights, no_children, hung, below_by, above_by, under, alone, put, put_root, within, Holds, Keeps, FitsIn}
+use Rattle.table.proofs.Rows.{Linkless, set_part}
 use Rattle.table.proofs.Holding.{Sp, frame_at, in_tree_once, in_tree_within}
 
 module _ (bs es : List Block) (n i j : ℕ) (hi : i < n) (hj : j < n) where
@@ -55,35 +56,23 @@ module _ (bs es : List Block) (n i j : ℕ) (hi : i < n) (hj : j < n) where
             (w.0, w.1, subst (λ y. Sp es n y (hang s i j a)) (sym (ap (λ b. b.children.left) e)) sa, subst (λ y. Sp es n y (hang s i j c)) (sym (ap (λ b. b.children.right) e)) sc)
       ]
 
-below_part : {X : Type 0} (f : Block → X) → ((l r : ℕ) (b : Block) → f (hung l r b) ≡ f b) → (s : Side) (c b : Block) → f (below_by s c b) ≡ f b
-below_part f h Left c b = h _ _ b
-below_part f h Right c b = h _ _ b
-
-above_part : {X : Type 0} (f : Block → X) → ((l r : ℕ) (b : Block) → f (linked l r b) ≡ f b) → (s : Side) (i : ℕ) (c : Block) → f (above_by s i c) ≡ f c
-above_part f h Left i c = h _ _ c
-above_part f h Right i c = h _ _ c
-
-below_present : (s : Side) (c b : Block) → (below_by s c b).present ≡ true
-below_present Left c b = refl
-below_present Right c b = refl
-
 -- under j
 module _ (i j : ℕ) (s : Side) (bs : List Block) where
   under_long : length (under i j s bs) ≡ length bs
   under_long = length-set _ j _ ∙ length-set bs i _
 
-  under_part : {X : Type 0} (f : Block → X) → ((l r : ℕ) (b : Block) → f (hung l r b) ≡ f b) → ((l r : ℕ) (b : Block) → f (linked l r b) ≡ f b)
+  under_part : {X : Type 0} (f : Block → X) → ((c : Children) (b : Block) → f (hung c b) ≡ f b) → Linkless f
       → (k : ℕ) → f (at (under i j s bs) k) ≡ f (at bs k)
   under_part f h g k =
       let first : (m : ℕ) → f (at (set bs i (below_by s (at bs j) (at bs i))) m) ≡ f (at bs m)
-      = λ m. set_part f bs i m (below_by s (at bs j) (at bs i)) (below_part f h s (at bs j) (at bs i)) in
-      set_part f (set bs i (below_by s (at bs j) (at bs i))) j k (above_by s i (at bs j)) (above_part f g s i (at bs j) ∙ sym (first j)) ∙ first k
+      = λ m. set_part f bs i m (below_by s (at bs j) (at bs i)) (h _ (at bs i)) in
+      set_part f (set bs i (below_by s (at bs j) (at bs i))) j k (above_by s i (at bs j)) (g _ (at bs j) ∙ sym (first j)) ∙ first k
 
   under_keeps : Keeps bs (under i j s bs)
   under_keeps = record {
     long = under_long;
-    sizes = under_part (λ b. b.size) (λ l r b. refl) (λ l r b. refl);
-    letters = under_part (λ b. b.letter) (λ l r b. refl) (λ l r b. refl);
+    sizes = under_part (λ b. b.size) (λ c b. refl) (λ c b. refl);
+    letters = under_part (λ b. b.letter) (λ c b. refl) (λ c b. refl);
   }
 
   module _ (hi : i < length bs) (hj : j < length bs) (d : i ≡ j → ⊥) where
@@ -98,7 +87,7 @@ module _ (i j : ℕ) (s : Side) (bs : List Block) where
 
     under_present : (m : ℕ) → (m ≡ i → ⊥) → (at (under i j s bs) m).present ≡ (at bs m).present
     under_present m a = elim (cases_eq m j) [
-      | inl e ↦ ap (λ q. (at (under i j s bs) q).present) e ∙ ap (λ b. b.present) at_under_j ∙ above_part (λ b. b.present) (λ l r b. refl) s i (at bs j) ∙ ap (λ q. (at bs q).present) (sym e)
+      | inl e ↦ ap (λ q. (at (under i j s bs) q).present) e ∙ ap (λ b. b.present) at_under_j ∙ ap (λ q. (at bs q).present) (sym e)
       | inr b ↦ ap (λ b. b.present) (at_under m a b)
     ]
 
@@ -114,7 +103,7 @@ module _ (i j : ℕ) (s : Side) (bs : List Block) where
             | inl e ↦
                 let q = hang_count s i j i t oj in
                 let o : count i (node i empty empty) ≡ 1 = omega (arith, own i empty empty, no_count i) in
-                let p : (at es m).present ≡ true = ap (λ y. (at es y).present) e ∙ ap (λ b. b.present) at_under_i ∙ below_present s (at bs j) (at bs i) in
+                let p : (at es m).present ≡ true = ap (λ y. (at es y).present) e ∙ ap (λ b. b.present) at_under_i in
                 ap (λ y. count y (hang s i j t)) e ∙ q ∙ omega (arith, o, zi, cond-true {A = ℕ} (at es m).present 1 0 p)
             | inr a ↦
                 let o : count m (node i empty empty) ≡ 0 = omega (arith, others m i empty empty a, no_count m) in
@@ -134,16 +123,16 @@ module _ (i : ℕ) (bs : List Block) where
   alone_keeps : Keeps bs (alone i bs)
   alone_keeps = record {
     long = length-set bs i _;
-    sizes = λ k. set_part (λ b. b.size) bs i k (hung 65535 65535 (at bs i)) refl;
-    letters = λ k. set_part (λ b. b.letter) bs i k (hung 65535 65535 (at bs i)) refl;
+    sizes = λ k. set_part (λ b. b.size) bs i k (hung no_children (at bs i)) refl;
+    letters = λ k. set_part (λ b. b.letter) bs i k (hung no_children (at bs i)) refl;
   }
 
   alone_holds : (root : ℕ) → i < length bs → Holds bs root empty → Holds (alone i bs) i (node i empty empty)
   alone_holds root hi h =
       let es = alone i bs in
       let small = h.few in
-      let long = length-set bs i (hung 65535 65535 (at bs i)) in
-      let here = get_or-set_same bs i (hung 65535 65535 (at bs i)) blank hi in
+      let long = length-set bs i (hung no_children (at bs i)) in
+      let here = get_or-set_same bs i (hung no_children (at bs i)) blank hi in
       record {
         few = omega arith;
         spelt = (refl, omega arith, ap (λ b. b.children.left) here, ap (λ b. b.children.right) here);
@@ -152,7 +141,7 @@ module _ (i : ℕ) (bs : List Block) where
               let p : (at es m).present ≡ true = ap (λ y. (at es y).present) q ∙ ap (λ b. b.present) here in
               ap (λ y. count y (node i empty empty)) q ∙ omega (arith, own i empty empty, no_count i, cond-true {A = ℕ} (at es m).present 1 0 p)
           | inr a ↦
-              let p : (at es m).present ≡ (at bs m).present = ap (λ b. b.present) (get_or-set_other bs i m (hung 65535 65535 (at bs i)) blank a) in
+              let p : (at es m).present ≡ (at bs m).present = ap (λ b. b.present) (get_or-set_other bs i m (hung no_children (at bs i)) blank a) in
               omega (arith, others m i empty empty a, no_count m) ∙ sym (no_count m) ∙ h.once m ∙ ap {B = ℕ} (λ b. cond b 1 0) (sym p)
         ];
       }

@@ -2,8 +2,9 @@
 use Rattle.std.proofs.Common.{◌≡◌, ℕ, zero, suc, Bool, true, false, cond, eqb, ltb, List, map, length, set, sym, refl, ap, ◌∙◌, inl, inr, arith}
 use Rattle.std.proofs.lemmas.Bool.{cases_eq, cases_lt}
 use Rattle.std.proofs.lemmas.List.{length-set, get_or-set_same, get_or-set_other, set_past, length-map, get_or-map, get_or_past}
+use Rattle.rules.specs.declared.blocks.Children.{Children}
 use Rattle.table.specs.declared.blocks.Block.{Block}
-use Rattle.table.specs.Tables.{at, blank, linked, lowered, joined}
+use Rattle.table.specs.Tables.{at, blank, with_children, linked, lowered, joined}
 
 -- a row written over by one with the same part
 pub set_part : {X : Type 0} (f : Block → X) (bs : List Block) (j m : ℕ) (b : Block) → f b ≡ f (at bs j) → f (at (set bs j b) m) ≡ f (at bs m)
@@ -21,9 +22,9 @@ map_part f g h bs m = elim (cases_lt m (length bs)) [
   | inr l ↦ ap f (get_or_past (map g bs) m blank (omega (arith, length-map bs g)) ∙ sym (get_or_past bs m blank l))
 ]
 
--- a part that does not hang on the links
+-- a part that does not hang on the children
 abbrev pub Linkless : {X : Type 0} → (Block → X) → Type 0
-Linkless f = (l r : ℕ) (b : Block) → f (linked l r b) ≡ f b
+Linkless f = (c : Children) (b : Block) → f (with_children c b) ≡ f b
 
 -- P of both ways of a cond
 either : (P : List Block → Type 0) (b : Bool) (cs ds : List Block) → P cs → P ds → P (cond b cs ds)
@@ -35,7 +36,7 @@ unfolding lowered
 lowered_part f s zero l j bs m = refl
 lowered_part {X} f s (suc n) l j bs m =
     let P : List Block → Type 0 = λ cs. f (at cs m) ≡ f (at bs m) in
-    let written : (r : ℕ) → P (set bs j (linked l r (at bs j))) = λ r. set_part f bs j m (linked l r (at bs j)) (s l r (at bs j)) in
+    let written : (r : ℕ) → P (set bs j (linked l r (at bs j))) = λ r. set_part f bs j m (linked l r (at bs j)) (s _ (at bs j)) in
     either P (ltb j (length bs)) _ _
     (either P (eqb (at bs j).children.right 65535) _ _ (written (at bs j).children.left)
     (either P (eqb (at bs j).children.left 65535) _ _ (written (at bs j).children.right)

@@ -7,8 +7,8 @@ use Rattle.rules.specs.Trees.{Tree, exchange, swap}
 use Rattle.rules.specs.Links.{Spells}
 use Rattle.rules.proofs.Spelling.{swap_spells, swap_count, exchange_twice}
 use Rattle.table.specs.declared.blocks.Block.{Block}
-use Rattle.table.specs.Tables.{at, blank, lefts, rights, linked, relinked, crossed, swapped, both_within, has_both, Holds, Keeps}
-use Rattle.table.proofs.Rows.{set_part, map_part}
+use Rattle.table.specs.Tables.{at, blank, lefts, rights, with_children, linked, relinked, crossed, swapped, both_within, has_both, Holds, Keeps}
+use Rattle.table.proofs.Rows.{Linkless, set_part, map_part}
 use Rattle.table.proofs.Holding.{in_tree_present, in_tree_within}
 
 exchange_first : (i j k : ℕ) → k ≡ i → exchange i j k ≡ j
@@ -28,18 +28,18 @@ module _ (i j : ℕ) (bs : List Block) where
   crossed_long = length-set _ j _ ∙ length-set _ i _ ∙ length-map bs _
 
   -- a part of the rows that does not hang on the links
-  crossed_part : {X : Type 0} (f : Block → X) → ((l r : ℕ) (b : Block) → f (linked l r b) ≡ f b) → (m : ℕ) → f (at (crossed i j renamed) m) ≡ f (at bs m)
+  crossed_part : {X : Type 0} (f : Block → X) → Linkless f → (m : ℕ) → f (at (crossed i j renamed) m) ≡ f (at bs m)
   crossed_part f s m =
-      let x = linked (at renamed j).children.left (at renamed j).children.right (at renamed i) in
-      let y = linked (at renamed i).children.left (at renamed i).children.right (at renamed j) in
-      let first : (k : ℕ) → f (at (set renamed i x) k) ≡ f (at renamed k) = λ k. set_part f renamed i k x (s _ _ (at renamed i)) in
-      set_part f (set renamed i x) j m y (s _ _ (at renamed j) ∙ sym (first j)) ∙ first m ∙ map_part f (relinked (exchange i j)) (λ b. s _ _ b) bs m
+      let x = with_children (at renamed j).children (at renamed i) in
+      let y = with_children (at renamed i).children (at renamed j) in
+      let first : (k : ℕ) → f (at (set renamed i x) k) ≡ f (at renamed k) = λ k. set_part f renamed i k x (s _ (at renamed i)) in
+      set_part f (set renamed i x) j m y (s _ (at renamed j) ∙ sym (first j)) ∙ first m ∙ map_part f (relinked (exchange i j)) (λ b. s _ b) bs m
 
   crossed_keeps : Keeps bs (crossed i j renamed)
   crossed_keeps = record {
     long = crossed_long;
-    sizes = crossed_part (λ b. b.size) (λ l r b. refl);
-    letters = crossed_part (λ b. b.letter) (λ l r b. refl);
+    sizes = crossed_part (λ b. b.size) (λ c b. refl);
+    letters = crossed_part (λ b. b.letter) (λ c b. refl);
   }
 
   swapped_keeps : Keeps bs (swapped i j bs)
@@ -57,8 +57,8 @@ module _ (i j : ℕ) (bs : List Block) where
         → at (crossed i j renamed) k ≡ linked (exchange i j (lefts bs (exchange i j k))) (exchange i j (rights bs (exchange i j k))) (at bs k)
     at_crossed k h =
         let n = length-map bs (relinked (exchange i j)) in
-        let x = linked (at renamed j).children.left (at renamed j).children.right (at renamed i) in
-        let y = linked (at renamed i).children.left (at renamed i).children.right (at renamed j) in
+        let x = with_children (at renamed j).children (at renamed i) in
+        let y = with_children (at renamed i).children (at renamed j) in
         let il : i < length renamed = omega arith in
         let jl : j < length (set renamed i x) = omega (arith, length-set renamed i x) in
         let ei = at_renamed i hi in
@@ -107,7 +107,7 @@ module _ (i j : ℕ) (bs : List Block) where
           spelt = subst (λ m. Spells (lefts (crossed i j renamed)) (rights (crossed i j renamed)) m (exchange i j root) (swap i j t)) (sym crossed_long)
               (swap_spells (lefts bs) (rights bs) (lefts (crossed i j renamed)) (rights (crossed i j renamed)) (length bs) i j hi hj (omega arith) crossed_links root t h.spelt);
           once = λ k. swap_count i j k t ∙ h.once (exchange i j k)
-              ∙ ap {B = ℕ} (λ b. cond b 1 0) (exchanged_present pi pj k ∙ sym (crossed_part (λ b. b.present) (λ l r b. refl) k));
+              ∙ ap {B = ℕ} (λ b. cond b 1 0) (exchanged_present pi pj k ∙ sym (crossed_part (λ b. b.present) (λ c b. refl) k));
         }
 
     both_true : both_within i j bs ≡ true

@@ -228,13 +228,13 @@ module _ (i : ℕ) (bs : List Block) where
   by_long = length-set _ i _ ∙ length-map (joined l r bs) (relinked (point i (heir l r))) ∙ joined_long l r bs
 
   led_part : {X : Type 0} (f : Block → X) → Linkless f → (m : ℕ) → f (at led m) ≡ f (at bs m)
-  led_part f s m = map_part f (relinked (point i (heir l r))) (λ b. s _ _ b) (joined l r bs) m ∙ joined_part f s l r bs m
+  led_part f s m = map_part f (relinked (point i (heir l r))) (λ b. s _ b) (joined l r bs) m ∙ joined_part f s l r bs m
 
   by_keeps : Keeps bs (taken_by i l r bs)
   by_keeps = record {
     long = by_long;
-    sizes = λ k. set_part (λ b. b.size) led i k (cleared (at led i)) refl ∙ led_part (λ b. b.size) (λ x y b. refl) k;
-    letters = λ k. set_part (λ b. b.letter) led i k (cleared (at led i)) refl ∙ led_part (λ b. b.letter) (λ x y b. refl) k;
+    sizes = λ k. set_part (λ b. b.size) led i k (cleared (at led i)) refl ∙ led_part (λ b. b.size) (λ c b. refl) k;
+    letters = λ k. set_part (λ b. b.letter) led i k (cleared (at led i)) refl ∙ led_part (λ b. b.letter) (λ c b. refl) k;
   }
 
   taken_keeps : Keeps bs (taken i bs)
@@ -263,7 +263,7 @@ module _ (i : ℕ) (bs : List Block) where
         ap (λ b. b.present) (get_or-set_same led i (cleared (at led i)) blank (omega arith))
 
     others_present : (m : ℕ) → (m ≡ i → ⊥) → (at (taken_by i l r bs) m).present ≡ (at bs m).present
-    others_present m d = ap (λ b. b.present) (get_or-set_other led i m _ blank d) ∙ led_part (λ b. b.present) (λ x y b. refl) m
+    others_present m d = ap (λ b. b.present) (get_or-set_other led i m _ blank d) ∙ led_part (λ b. b.present) (λ c b. refl) m
 
     by_holds : (root : ℕ) (t : Tree) → Holds bs root t → 0 < count i t → Holds (taken_by i l r bs) (point i (heir l r) root) (take_out i t)
     by_holds root t h p =

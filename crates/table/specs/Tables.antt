@@ -1,8 +1,9 @@
 -- The tree of a block table, and what each edit writes.
 use Rattle.std.specs.Prelude.{◌≡◌, ℕ, zero, suc, ◌<◌, ◌≤◌, Bool, true, false, cond, ◌&&◌, List, map, length, ◌==◌, ◌≢◌, nat_lt, slice_index_or, slice_set}
+use Rattle.rules.specs.declared.blocks.Children.{Children}
 use Rattle.rules.specs.declared.blocks.Letter.TheVariants.{Free}
 use Rattle.rules.specs.declared.edits.Side.{Side}
-use Rattle.rules.specs.declared.edits.Side.TheVariants.{Left, Right}
+use Rattle.rules.specs.Sides.{child_on, with_child}
 use Rattle.rules.specs.Trees.{Tree, empty, count, exchange}
 use Rattle.rules.specs.Links.{Spells}
 use Rattle.table.specs.declared.blocks.Block.{Block}
@@ -36,9 +37,13 @@ pub record Keeps (bs cs : List Block) : Type 0 where
   pub sizes : (k : ℕ) → (at cs k).size ≡ (at bs k).size
   pub letters : (k : ℕ) → (at cs k).letter ≡ (at bs k).letter
 
+-- the row with other children
+abbrev pub with_children : Children → Block → Block
+with_children c b = record { size = b.size; letter = b.letter; children = c; present = b.present }
+
 -- the row with other links
 abbrev pub linked : ℕ → ℕ → Block → Block
-linked l r b = record { size = b.size; letter = b.letter; children = record { left = l; right = r }; present = b.present }
+linked l r b = with_children (record { left = l; right = r }) b
 
 -- the row with its links renamed
 abbrev pub relinked : (ℕ → ℕ) → Block → Block
@@ -59,7 +64,7 @@ has_both i j t = (0 < count i t) × (0 < count j t)
 -- rows i and j with each other's links
 abbrev pub crossed : ℕ → ℕ → List Block → List Block
 crossed i j bs =
-    slice_set (slice_set bs i (linked (at bs j).children.left (at bs j).children.right (at bs i))) j (linked (at bs i).children.left (at bs i).children.right (at bs j))
+    slice_set (slice_set bs i (with_children (at bs j).children (at bs i))) j (with_children (at bs i).children (at bs j))
 
 -- the table in which i and j have exchanged their places
 abbrev pub swapped : ℕ → ℕ → List Block → List Block
@@ -105,19 +110,21 @@ taken i bs = cond (within i bs) (taken_by i (at bs i).children.left (at bs i).ch
 abbrev pub taken_root : ℕ → ℕ → List Block → ℕ
 taken_root i root bs = cond (within i bs) (point i (heir (at bs i).children.left (at bs i).children.right) root) root
 
--- the row of a block in the tree, over l and r
-abbrev pub hung : ℕ → ℕ → Block → Block
-hung l r b = record { size = b.size; letter = b.letter; children = record { left = l; right = r }; present = true }
+-- no child on either side
+abbrev pub no_children : Children
+no_children = record { left = 65535; right = 65535 }
 
--- the row of a block put in under c, and that of c
+-- the row of a block in the tree, with these children
+abbrev pub hung : Children → Block → Block
+hung c b = record { size = b.size; letter = b.letter; children = c; present = true }
+
+-- the row of a block put in under c on that side, over what stood there
 abbrev pub below_by : Side → Block → Block → Block
-below_by Left c b = hung c.children.left 65535 b
-below_by Right c b = hung 65535 c.children.right b
+below_by s c b = hung (with_child s (child_on s c.children) no_children) b
 
 -- the row of a block under which i is put in
 abbrev pub above_by : Side → ℕ → Block → Block
-above_by Left i c = linked i c.children.right c
-above_by Right i c = linked c.children.left i c
+above_by s i c = with_children (with_child s i c.children) c
 
 -- the table with i put in under j
 abbrev pub under : ℕ → ℕ → Side → List Block → List Block
@@ -125,7 +132,7 @@ under i j s bs = slice_set (slice_set bs i (below_by s (at bs j) (at bs i))) j (
 
 -- the table with i alone in the tree
 abbrev pub alone : ℕ → List Block → List Block
-alone i bs = slice_set bs i (hung 65535 65535 (at bs i))
+alone i bs = slice_set bs i (hung no_children (at bs i))
 
 -- the table with i put in under j, or alone if there was no root; and its root
 abbrev pub put : ℕ → ℕ → Side → ℕ → List Block → List Block

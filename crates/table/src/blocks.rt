@@ -6,6 +6,7 @@ pub struct Block {
     pub size: Size,
     pub letter: Letter,
     pub children: Children,
-    // whether the block is in the tree; no block of the tree has children behind a case, so that a walk reads links alone
+    // A mark beside the children, and no Option around them: a walk by links comes to present blocks alone, and would test a
+    // case that never comes.
     pub present: bool,
 }

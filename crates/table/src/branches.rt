@@ -17,7 +17,7 @@ use std::mem;
 // The blocks from a link on, each the child of the one before on that side. No branch has more blocks than the table, so
 // that it ends in any table.
 #[derive(Clone, Copy)]
-pub(crate) struct Branch<'a> {
+struct Branch<'a> {
     blocks: &'a [Block],
     side: Side,
     link: u16,

@@ -9,7 +9,8 @@ use crate::tables::Table;
 use rules::blocks::{Children, NONE};
 
 // Hangs the subtree at `first` under `start` as its left child, and what stood there under the next block of the
-// rightmost branch from `start` on, and so on to that branch's end.
+// rightmost branch from `start` on, and so on to that branch's end. It takes no more steps than there are rows, so that it
+// ends in any table.
 fn lower(blocks: &mut [Block], first: u16, start: u16)
     ensures { blocks.new ≡ lowered (length blocks.old) first start blocks.old }
 {

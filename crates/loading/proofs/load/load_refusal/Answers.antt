@@ -20,4 +20,4 @@ pub returns-clause-answer : goal.returns-clause-answer
 returns-clause-answer c = from_tree (given c.args.lists (length c.args.walk.now)) _ (search rules) (search rules) c.tree_refusal.ensures
 
 pub returns-clause-told : goal.returns-clause-told
-returns-clause-told c = told (given c.args.lists (length c.args.walk.now)) _ (from_tree (given c.args.lists (length c.args.walk.now)) _ (search rules) (search rules) c.tree_refusal.ensures)
+returns-clause-told c = told (given c.args.lists (length c.args.walk.now)) _ (returns-clause-answer c)

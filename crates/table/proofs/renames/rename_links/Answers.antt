@@ -1,5 +1,5 @@
-use Rattle.std.proofs.Common.{◌<◌, ◌≤◌, length, get_or, ◌∙◌, arith}
-use Rattle.std.proofs.lemmas.List.{get_or_default, take_all, drop_all, append-nil}
+use Rattle.std.proofs.Common.{◌<◌, length, get_or, arith}
+use Rattle.std.proofs.lemmas.List.{get_or_default}
 use Rattle.std.proofs.lemmas.List.Edits.{map_over_more}
 use Rattle.table.specs.Tables.{blank, relinked}
 use Rattle.table.proofs.renames.rename_links.Goals as goal
@@ -13,9 +13,3 @@ loop-b-preserved g c =
     let m : i < length xs = omega arith in
     let e = map_over_more (relinked (g.R.Renaming.renames c.args.by.now)) xs c.loop-b.blocks i x m c.loop-b.invariant (get_or_default c.loop-b.blocks i blank x l) in
     simp (c.rename-b.ensures, c.rename-b-in-loop-b.ensures) e
-
-pub returns : goal.returns
-returns g c =
-    let xs = c.args.blocks.now in
-    let h : length xs ≤ c.loop-b.b-index = omega arith in
-    c.loop-b.invariant ∙ rw (take_all c.loop-b.b-index xs h, drop_all c.loop-b.b-index xs h, append-nil)

@@ -6,8 +6,8 @@ use Rattle.loading.proofs.Trees.{linked, rooted}
 use Rattle.loading.proofs.Namings.{leading_none, leading_more, leading_le, wider}
 use Rattle.loading.proofs.links.Links.namings.Goals as goal
 
-pub count_naming-requires : goal.count_naming-requires
-count_naming-requires c = record { link = wider _ _ _ c.args.self.now.few (rooted _ _ c.args.self.now.rooted); few = λ k h. let P : ℕ → Type 0 = λ v. v ≤ 1024 in subst P (sym (get_or-replicate 512 k 0 0 h)) (lit≤ tt) }
+pub count_naming-requires-clause-few : goal.count_naming-requires-clause-few
+count_naming-requires-clause-few c = λ k h. let P : ℕ → Type 0 = λ v. v ≤ 1024 in subst P (sym (get_or-replicate 512 k 0 0 h)) (lit≤ tt)
 
 pub loop-pair-init : goal.loop-pair-init
 loop-pair-init c = λ k h.

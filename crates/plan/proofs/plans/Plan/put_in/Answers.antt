@@ -1,13 +1,8 @@
-use Rattle.std.proofs.Common.{vec_items, arith}
 use Rattle.plan.proofs.Changes.{after_put}
 use Rattle.plan.proofs.plans.Plan.put_in.Goals as goal
 
 pub invariant_of-self : goal.invariant_of-self
-invariant_of-self c =
-    let d = after_put (vec_items c.args.self.now.table.blocks) c.args.self.now.table.root (omega arith) c.args.self.now.sound c.args.self.now.fit c.args.i c.args.j c.args.side _ _ c.requires c.put_in.ensures.keeps c.put_in.ensures.tree in
-    record { sound = d.sound; fit = d.fit }
+invariant_of-self c = let d = after_put c.args.self.now c.args.i c.args.j c.args.side _ _ c.requires c.put_in.ensures.keeps c.put_in.ensures.tree in record { sound = d.sound; fit = d.fit }
 
 pub returns : goal.returns
-returns c =
-    let d = after_put (vec_items c.args.self.now.table.blocks) c.args.self.now.table.root (omega arith) c.args.self.now.sound c.args.self.now.fit c.args.i c.args.j c.args.side _ _ c.requires c.put_in.ensures.keeps c.put_in.ensures.tree in
-    d.plan
+returns c = (after_put c.args.self.now c.args.i c.args.j c.args.side _ _ c.requires c.put_in.ensures.keeps c.put_in.ensures.tree).plan

@@ -1,19 +1,12 @@
-use Rattle.std.proofs.Common.{[], vec_items, sym, refl, subst}
-use Rattle.rules.specs.Book.{Settles}
-use Rattle.theorems.proofs.Following.{follows_new}
-use Rattle.plan.proofs.Sounds.{empty_sound}
+use Rattle.std.proofs.Common.{refl}
+use Rattle.plan.proofs.Loads.{empty_plan}
 use Rattle.plan.proofs.states.Settled.new.Goals as goal
 
 pub invariant_of-result : goal.invariant_of-result
-invariant_of-result c =
-    let t = c.in_ok-table.table in
-    let e = c.in_ok-table.ensures in
-    let n = empty_sound (vec_items t.blocks) t.root e.0 e.1 in
-    record { sound = n.0; fit = n.1 }
+invariant_of-result c = let n = empty_plan c.in_ok-table.table c.in_ok-table.ensures.0 c.in_ok-table.ensures.1 in record { sound = n.sound; fit = n.fit }
 
-pub returns : goal.returns
-returns c =
-    let t = c.in_ok-table.table in
-    let e = c.in_ok-table.ensures in
-    let n = empty_sound (vec_items t.blocks) t.root e.0 e.1 in
-    record { plain = (n.2, refl); told = subst (λ p. Settles [] p 0) (sym n.2) follows_new }
+pub returns-clause-plain : goal.returns-clause-plain
+returns-clause-plain c = ((empty_plan c.in_ok-table.table c.in_ok-table.ensures.0 c.in_ok-table.ensures.1).plan, refl)
+
+pub returns-clause-told : goal.returns-clause-told
+returns-clause-told c = (empty_plan c.in_ok-table.table c.in_ok-table.ensures.0 c.in_ok-table.ensures.1).told
