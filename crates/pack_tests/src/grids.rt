@@ -22,19 +22,14 @@ fn holds(place: Placement, cell: u32) -> bool {
 
 impl Grid {
     fn is_free(&self, place: Placement) -> bool {
-        for i in 0..144u32 {
-            if self.cells[i as usize] && holds(place, i) {
-                return false;
-            }
-        }
-        true
+        !(0..144)
+            .zip(&self.cells)
+            .any(|(i, painted)| *painted && holds(place, i))
     }
 
     fn paint(&mut self, place: Placement) {
-        for i in 0..144u32 {
-            if holds(place, i) {
-                self.cells[i as usize] = true;
-            }
+        for (i, painted) in (0..144).zip(&mut self.cells) {
+            *painted |= holds(place, i);
         }
     }
 
@@ -72,9 +67,11 @@ impl Grid {
     // The heights of the columns: the row above the highest painted cell.
     pub fn columns(&self) -> [u32; 12] {
         let mut columns = [0; 12];
-        for i in 0..144u32 {
-            if self.cells[i as usize] {
-                columns[(i % 12) as usize] = i / 12 + 1;
+        for (row, cells) in (1..13).zip(self.cells.chunks(12)) {
+            for (column, painted) in columns.iter_mut().zip(cells) {
+                if *painted {
+                    *column = row;
+                }
             }
         }
         columns
@@ -83,15 +80,11 @@ impl Grid {
 
 // The rightmost column that is not empty gives the width, and the highest one the height.
 pub fn extent(columns: &[u32; 12]) -> (u32, u32) {
-    let mut width = 0;
-    let mut height = 0;
-    for c in 0..12u32 {
-        let top = columns[c as usize];
-        height = top.max(height);
-        if top > 0 {
-            width = c + 1;
-        }
-    }
+    let width = columns
+        .iter()
+        .rposition(|top| *top > 0)
+        .map_or(0, |c| c as u32 + 1);
+    let height = columns.iter().copied().max().unwrap_or(0);
     (width, height)
 }
 

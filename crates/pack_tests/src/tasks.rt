@@ -63,19 +63,16 @@ fn answer_of(answer: Result<Extent, Refusal>) -> Answer {
 }
 
 fn check_heights<S: Skyline>(rt: &impl Abort, skyline: &S, heights: &[u32]) {
-    let mut c = 0u32;
-    for height in heights.iter() {
-        if c == skyline.columns() {
-            break;
-        }
-        assert_eq!(rt; skyline.highest(c, c.saturating_add(1)).ok(), Some(*height));
-        c = c.saturating_add(1);
+    let told = heights.len().min(skyline.columns() as usize);
+    for (c, height) in heights[..told].iter().enumerate() {
+        let c = c as u32;
+        assert_eq!(rt; skyline.highest(c, c + 1).ok(), Some(*height));
     }
 }
 
 // The walk memory is as before.
 fn check_walk(rt: &impl Abort, walk: &[Spot]) -> Result<(), Fail> {
-    for spot in walk.iter() {
+    for spot in walk {
         assert_eq!(rt; (spot.block, spot.left), (OLD_SPOT.block, OLD_SPOT.left));
     }
     Ok(())

@@ -160,7 +160,7 @@ fn check_trial(rt: &impl Abort, heap: Global, case: &Case) -> Result<(), Fail> {
 
 #[test]
 fn edits_of_k(rt: HostRuntime) -> Result<(), Fail> {
-    for case in EDITED.iter() {
+    for case in &EDITED {
         let edit = case.edit;
         check_trial(&rt, rt.alloc(), case)?;
     }
@@ -213,7 +213,7 @@ fn check_refusals(
     plan: &Plan,
     cases: &[(usize, usize, u32, usize, u8)],
 ) -> Result<(), Fail> {
-    for case in cases.iter() {
+    for case in cases {
         check_refused(rt, heap, plan, *case)?;
     }
     Ok(())

@@ -12,6 +12,8 @@ pub const MOST_RAISES: u32 = 65_536;
 
 pub const GREATEST_HEIGHT: u32 = 134_217_728;
 
+// highest and raise are not provided over smaller methods: authors would owe those too, and a raise of one's own may promise more,
+// as that of `Columns` does (`behind`, `loan`).
 pub trait Skyline {
     ghost meaning: { Self → Sky };
 

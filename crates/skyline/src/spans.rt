@@ -56,7 +56,7 @@ fn top_over<T: Spanned>(raised: &T, a: u32, b: u32) -> u32
     if from < to { raised.top() } else { 0 }
 }
 
-// The largest top of the records whose span meets that from a to b, or 0.
+// The largest top of the records whose span meets that from a to b, or 0. That span is two numbers, since it may have no column.
 pub fn highest_top<T: Spanned>(records: &[T], a: u32, b: u32) -> u32
     ensures { result ≡ highest_top T.Spanned.extent records.now a b }
 {

@@ -21,11 +21,9 @@ fn check_same<S: Skyline>(rt: &impl Abort, skyline: &S, painting: &Painting) {
     assert_eq!(rt; skyline.columns(), WIDTH);
     assert_eq!(rt; skyline.raises(), painting.raises);
     assert_eq!(rt; skyline.raises_left(), painting.left);
-    for c in 0..WIDTH {
-        assert_eq!(rt;
-            skyline.highest(c, c + 1).ok(),
-            Some(painting.heights[c as usize])
-        );
+    for (c, height) in painting.heights.iter().enumerate() {
+        let c = c as u32;
+        assert_eq!(rt; skyline.highest(c, c + 1).ok(), Some(*height));
     }
 }
 
@@ -46,7 +44,7 @@ pub fn check_call<S: Skyline>(
 fn run<S: Skyline>(rt: &impl Abort, skyline: &mut S, calls: &[(Call, Answer)]) -> Result<(), Fail> {
     let mut painting = Painting::new(skyline.raises());
     check_same(rt, skyline, &painting);
-    for (call, answer) in calls.iter() {
+    for (call, answer) in calls {
         assert_eq!(rt; painting.make(*call), *answer);
         check_call(rt, skyline, *call, *answer, &painting)?;
     }

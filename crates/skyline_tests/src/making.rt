@@ -11,7 +11,7 @@ use std::test::Fail;
 use steps::steps::Steps;
 
 fn check_answers<S: Skyline>(rt: &impl Abort, skyline: &mut S, calls: &[(Call, Answer)]) {
-    for (call, answer) in calls.iter() {
+    for (call, answer) in calls {
         assert_eq!(rt; make(skyline, *call), *answer);
     }
 }

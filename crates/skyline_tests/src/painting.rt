@@ -22,20 +22,13 @@ impl Painting {
 
     // The largest of the heights a to b - 1.
     pub fn largest(&self, a: u32, b: u32) -> u32 {
-        let mut largest = 0;
-        for c in 0..WIDTH {
-            if a <= c && c < b {
-                largest = self.heights[c as usize].max(largest);
-            }
-        }
-        largest
+        let until_b = self.heights.iter().take(b as usize);
+        until_b.skip(a as usize).copied().max().unwrap_or(0)
     }
 
     fn paint(&mut self, a: u32, b: u32, h: u32) {
-        for c in 0..WIDTH {
-            if a <= c && c < b {
-                self.heights[c as usize] = h;
-            }
+        for height in self.heights.iter_mut().take(b as usize).skip(a as usize) {
+            *height = h;
         }
         self.left = self.left.saturating_sub(1);
     }

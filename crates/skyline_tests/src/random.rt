@@ -60,12 +60,12 @@ fn run(
 #[test]
 fn three_kinds(rt: HostRuntime) -> Result<(), Fail> {
     let mut heights = [7; 24];
-    let mut rectangles = vec![in rt.alloc(); STALE_RUN; 65_536]?;
+    let mut records = vec![in rt.alloc(); STALE_RUN; 65_536]?;
     let mut runs = vec![in rt.alloc(); STALE_RUN; 131_073]?;
     run(
         &rt,
         &mut Columns::new(&mut heights),
-        &mut Placed::new(&mut rectangles, WIDTH),
+        &mut Placed::new(&mut records, WIDTH),
         &mut Steps::new(&mut runs, WIDTH),
         &mut Painting::new(65_536),
     )

@@ -4,8 +4,8 @@ ghost use Rattle.std.specs.Prelude.{◌≤◌, length};
 use skyline::spans::Run;
 
 mod ops;
-mod pieces;
 
+// No stack of the crate `stack`, since runs in the middle are replaced in place.
 #[derive(Drop)]
 pub(crate) struct Runs<'a> {
     memory: &'a mut [Run],

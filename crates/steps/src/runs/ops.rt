@@ -5,7 +5,6 @@ ghost use Rattle.steps.specs.Order.{run_at, pieces, replaced};
 ghost use Rattle.steps.specs.Used.{in_use, room};
 
 use super::Runs;
-use super::pieces::pieces_of;
 use skyline::spans::Run;
 
 // Moves the runs at the places from to past - 1, so that the first of them stands at to. Where it does already, nothing is written.
@@ -60,6 +59,7 @@ impl<'a> Runs<'a> {
         self.memory[first..rest].copy_from_slice(new);
         self.used = rest + (used - past);
     }
+
     // Puts a raised run in the place of those from first to last, of which the first and the last may keep a rest. Gives the place of
     // the run behind it.
     pub(crate) fn put(&mut self, first: usize, last: usize, raised: Run) -> usize
@@ -71,8 +71,19 @@ impl<'a> Runs<'a> {
         ensures runs { in_use self.new ≡ replaced first (last + 1) (pieces (run_at (in_use self.old) first) (run_at (in_use self.old) last) raised) (in_use self.old) }
     {
         let runs = self.in_use();
-        let (pieces, from, past) = pieces_of(runs[first], runs[last], raised);
-        self.replace(first, last + 1, &pieces[from..past]);
+        let (left, right) = (runs[first], runs[last]);
+        let before = Run {
+            end: raised.start,
+            ..left
+        };
+        let behind = Run {
+            start: raised.end,
+            ..right
+        };
+        // a rest of no columns is left out
+        let from = usize::from(left.start >= raised.start);
+        let past = 2 + usize::from(raised.end < right.end);
+        self.replace(first, last + 1, &[before, raised, behind][from..past]);
         first + 2 - from
     }
 }
