@@ -40,22 +40,3 @@ tried_rest records (Begin e) cs p before kept_next kept no_keep no_undo h turn =
 tried_rest records Keep cs p before kept_next kept no_keep no_undo h turn = absurd (no_keep refl)
 tried_rest records Undo cs p before kept_next kept no_keep no_undo h turn = absurd (no_undo refl)
 tried_rest records Pack cs p before kept_next kept no_keep no_undo h turn = follows_pack_tried p before kept_next kept cs h
-
-pub walk_same : (c : book.Call) (walk : List ℕ) → WalkLeft c walk walk
-walk_same (book.load g) walk = λ reason e. refl
-walk_same (book.test e) walk = refl
-walk_same (book.begin e) walk = refl
-walk_same book.keep walk = refl
-walk_same book.undo walk = refl
-walk_same book.pack walk = refl
-
--- a call but for a packing alters the walk records at most
-pub leaves_rest : {S : Type 0} (meaning : S → Sky) (p : Plan) (records : ℕ) (call : Call) (skyline : S) (before after : List ℕ) (spots : List Spot) (places : List Placement)
-    → (call ≡ Pack → ⊥) → WalkLeft (said records call) before after
-    → CallLeaves meaning p (said records call) (memory skyline before spots places) (memory skyline after spots places)
-leaves_rest meaning p records (Load l) skyline before after spots places no_pack h = record { skyline = refl; walk = h; spots = refl; places = refl }
-leaves_rest meaning p records (Test e) skyline before after spots places no_pack h = ap (λ w. memory skyline w spots places) h
-leaves_rest meaning p records (Begin e) skyline before after spots places no_pack h = ap (λ w. memory skyline w spots places) h
-leaves_rest meaning p records Keep skyline before after spots places no_pack h = ap (λ w. memory skyline w spots places) h
-leaves_rest meaning p records Undo skyline before after spots places no_pack h = ap (λ w. memory skyline w spots places) h
-leaves_rest meaning p records Pack skyline before after spots places no_pack h = absurd (no_pack refl)

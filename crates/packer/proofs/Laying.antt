@@ -1,7 +1,6 @@
 -- The blocks that a walk comes to, laid one after the other.
 use Rattle.std.proofs.Common.{◌≡◌, ℕ, ◌+◌, ◌≤◌, List, [], ◌∷◌, max, map, length, refl, ap, ◌∙◌, arith}
-use Rattle.std.specs.List.{fold, reduce}
-use Rattle.std.specs.Option.{unwrap_or}
+use Rattle.std.specs.List.{fold}
 use Rattle.std.proofs.lemmas.List.{length-map}
 use Rattle.rules.specs.declared.blocks.Size.{Size}
 use Rattle.rules.specs.Trees.{Tree, size}
@@ -49,22 +48,14 @@ pub length_visits : (sizes : List Size) (t : Tree) (x : ℕ) → length (visits_
 length_visits sizes t x =
     length-map (spots sizes t x) (λ (s : Spot). record { block = s.block; left = s.left; size = size_at sizes s.block }) ∙ length_spots sizes t x
 
--- where a block ends
-abbrev pub edge : Visit → ℕ
-edge v = v.left + v.size.width
+-- the farther of a right edge and the reach so far
+abbrev pub farther : ℕ → Visit → ℕ
+farther a v = max (v.left + v.size.width) a
 
-farther : (ps : List Rect) (vs : List Visit) → fold max (reach ps) (map edge vs) ≡ reach (laid ps vs)
-farther ps [] = refl
-farther ps (v ∷ vs) =
-    let swap : max (reach ps) (edge v) ≡ max (edge v) (reach ps) = omega arith in
-    ap (λ (n : ℕ). fold max n (map edge vs)) swap ∙ farther (resting ps v ∷ ps) vs
-
-widest_laid : (vs : List Visit) → unwrap_or (reduce max (map edge vs)) 0 ≡ reach (laid [] vs)
-widest_laid [] = refl
-widest_laid (v ∷ vs) =
-    let own : edge v ≡ max (edge v) 0 = omega arith in
-    ap (λ (n : ℕ). fold max n (map edge vs)) own ∙ farther (resting [] v ∷ []) vs
+reach_laid : (ps : List Rect) (vs : List Visit) → fold farther (reach ps) vs ≡ reach (laid ps vs)
+reach_laid ps [] = refl
+reach_laid ps (v ∷ vs) = reach_laid (resting ps v ∷ ps) vs
 
 -- the largest of the right edges is the reach
-pub widest : (p : Plan) → unwrap_or (reduce max (map edge (visits p))) 0 ≡ reach (packed p)
-widest p = widest_laid (visits p) ∙ ap reach (packed_is p)
+pub widest : (p : Plan) → fold farther 0 (visits p) ≡ reach (packed p)
+widest p = reach_laid [] (visits p) ∙ ap reach (packed_is p)

@@ -46,9 +46,9 @@ none_of : (a n : ℕ) → replicate n nowhere ≡ map (record_of []) (range_with
 none_of a zero = refl
 none_of a (suc n) = ap (λ (rs : List Placement). nowhere ∷ rs) (none_of (a + 1) n)
 
--- blanked records
-pub recorded_none : (n : ℕ) (before : List Placement) → recorded [] n before ≡ replicate n nowhere ++ drop n before
-recorded_none n before = ap (λ (rs : List Placement). rs ++ drop n before) (sym (none_of 0 n))
+-- the first k records blanked, k being n
+pub recorded_none : {k n : ℕ} (before : List Placement) {after : List Placement} → k ≡ n → after ≡ replicate k nowhere ++ drop k before → after ≡ recorded [] n before
+recorded_none {k} before e f = f ∙ ap (λ (rs : List Placement). rs ++ drop k before) (none_of 0 k) ∙ ap (λ (j : ℕ). recorded [] j before) e
 
 pub recorded_long : (ps : List Rect) (n : ℕ) (before : List Placement) → n ≤ length (recorded ps n before)
 recorded_long ps n before = omega (arith, length-append (map (record_of ps) (range_with_len 0 n)) (drop n before), length-map-range_with_len (record_of ps) 0 n)

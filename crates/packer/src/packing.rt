@@ -28,10 +28,7 @@ fn reach_of(plan: &Plan, walk: &mut [Spot]) -> u32
     requires { size (plan_of (rows plan.now) (root_of plan.now)).tree ≤ length walk.old }
     ensures { result ≡ reach (packed (plan_of (rows plan.now) (root_of plan.now))) }
 {
-    Walk::new(plan, walk)
-        .map(|visit| visit.left + visit.size.width)
-        .max()
-        .unwrap_or(0)
+    Walk::new(plan, walk).fold(0, |reach, visit| (visit.left + visit.size.width).max(reach))
 }
 
 // The plan's reach, if the walk memory, that many records and the skyline are large enough for it.

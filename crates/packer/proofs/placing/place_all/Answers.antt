@@ -1,6 +1,5 @@
-use Rattle.std.proofs.Common.{◌≡◌, [], drop, replicate, ◌++◌, ◌+◌, ◌≤◌, length, sym, refl, ap, ◌∙◌, arith, rules}
+use Rattle.std.proofs.Common.{◌+◌, ◌≤◌, length, sym, refl, ap, ◌∙◌, arith, rules}
 use Rattle.rules.specs.Packing.{packed}
-use Rattle.promises.specs.Packs.{nowhere}
 use Rattle.plan.specs.Meaning.{rows, root_of}
 use Rattle.plan.specs.Sound.{plan_of}
 use Rattle.packer.specs.Places.{recorded}
@@ -16,11 +15,8 @@ blank_records-requires g c = omega (arith, rows_are c.args.plan.now, ap length c
 
 pub loop-visit-init : goal.loop-visit-init
 loop-visit-init g c =
-    let before = c.args.places.now in
-    let n = length (rows c.args.plan.now) in
-    let blank : c.blank_records.new.places ≡ recorded [] n before =
-    c.blank_records.ensures ∙ ap (λ k. replicate k nowhere ++ drop k before) (ap length c.blocks-2.ensures) ∙ sym (recorded_none n before) in
-    fill_start (stands c.args.plan.now) (ap ahead c.into_iter-visit-iterator.ensures.into_iter_gives ∙ c.new-visit-items.ensures) c.clear.ensures blank
+    fill_start (stands c.args.plan.now) (ap ahead c.into_iter-visit-iterator.ensures.into_iter_gives ∙ c.new-visit-items.ensures) c.clear.ensures
+    (recorded_none c.args.places.now (ap length c.blocks-2.ensures) c.blank_records.ensures)
 
 pub place_block-place-requires : goal.place_block-place-requires
 place_block-place-requires g c =
