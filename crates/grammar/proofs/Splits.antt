@@ -1,6 +1,6 @@
 -- The first word of a line, and where it stands.
-use Rattle.std.proofs.Common.{◌≡◌, ℕ, zero, suc, ◌+◌, ◌-◌, ◌<◌, ◌≤◌, true, false, List, [], ◌∷◌, ◌++◌, map, length, get_or, take, drop, sym, refl, ap, ◌∙◌, ⊎_elim, append_assoc, arith}
-use Rattle.std.proofs.lemmas.List.{take_rest, map_push, take_all, take_at, length-map, length-take, length-take-le, length-drop, append-nil, nil_from_length}
+use Rattle.std.proofs.Common.{◌≡◌, ℕ, zero, suc, ◌+◌, ◌-◌, ◌<◌, ◌≤◌, true, false, List, [], ◌∷◌, length, get_or, take, drop, sym, refl, ap, ◌∙◌, ⊎_elim, arith}
+use Rattle.std.proofs.lemmas.List.{take_rest, length-take, length-drop, nil_from_length}
 use Rattle.std.proofs.lemmas.Bool.{cond-true, cond-false, cond_both, cases_Bool, cases_lt, not-true, not_from_false, or_parts, or_from}
 use Rattle.words.specs.Words.{Word, onto}
 use Rattle.grammar.specs.Words.{blank, mark, plain, joins, words, indent}
@@ -79,28 +79,6 @@ past_begins (b ∷ bs) =
     cond_both (blank b) (suc (indent bs)) 0 (λ n. 0 < length (drop n (b ∷ bs)) → blank (get_or (drop n (b ∷ bs)) 0 0) ≡ false)
     (λ e. past_begins bs)
     (λ e some. e)
-
--- one more word found, and one fewer left
-pub one_more : {X : Type 0} (f : X → Word) (found more : List X) (x : X) (rest after all : List Word) → more ≡ found ++ x ∷ [] → rest ≡ f x ∷ after → map f found ++ rest ≡ all → map f more ++ after ≡ all
-one_more f found more x rest after all e r h =
-    ap (λ l. map f l ++ after) e ∙ ap (λ l. l ++ after) (map_push f found x) ∙ append_assoc (map f found) (f x ∷ []) after ∙ ap (λ l. map f found ++ l) (sym r) ∙ h
-
--- n words were found in room for as many or more
-module _ {X : Type 0} (f : X → Word) (room : List X) (n : ℕ) (within : n ≤ length room) (rest all : List Word) (e : map f (take n room) ++ rest ≡ all) where
-  count : length (map f (take n room)) ≡ n
-  count = length-map (take n room) f ∙ length-take-le n room within
-
-  -- the room is full
-  pub found_full : length room ≤ n → map f (take n room) ≡ take (length room) all
-  found_full h =
-      let same : length room ≡ n = omega arith in
-      sym (take_at (map f (take n room)) rest n count) ∙ ap (take n) e ∙ ap (λ k. take k all) (sym same)
-
-  -- no word is left
-  pub found_all : rest ≡ [] → map f (take n room) ≡ take (length room) all
-  found_all h =
-      let whole : map f (take n room) ≡ all = sym (append-nil _) ∙ ap (λ l. map f (take n room) ++ l) (sym h) ∙ e in
-      whole ∙ sym (take_all (length room) all (omega (arith, ap length whole, count)))
 
 -- a line that begins with no blank begins with its first word
 record Front (bs : List ℕ) : Type 0 where

@@ -1,5 +1,5 @@
 // A line cut into words.
-ghost use Rattle.std.specs.Prelude.{◌≡◌, ◌<◌, ◌≤◌, false, ◌∷◌, map, length, take, drop, slice_index};
+ghost use Rattle.std.specs.Prelude.{◌≡◌, ◌<◌, ◌≤◌, false, ◌∷◌, length, take, drop, slice_index};
 ghost use Rattle.grammar.specs.Words.{blank, mark, plain, words, indent, FirstWord};
 
 fn is_blank(b: u8) -> bool
@@ -66,22 +66,4 @@ pub(crate) fn next_word(line: &[u8]) -> Option<(&[u8], &[u8])>
         return None;
     }
     Some(rest.split_at(word_len(rest)))
-}
-
-// The words of a line, as many as there is room for, and how many these are.
-pub(crate) fn words_into<'a>(line: &'a [u8], room: &mut [&'a [u8]]) -> usize
-    ensures within { result ≤ length room.new }
-    ensures found { map (λ w. w.now) (take result room.new) ≡ take (length room.new) (words line.now) }
-{
-    let mut rest = line;
-    let mut n = 0;
-    while n < room.len() {
-        let Some((word, after)) = next_word(rest) else {
-            break;
-        };
-        room[n] = word;
-        n += 1;
-        rest = after;
-    }
-    n
 }
