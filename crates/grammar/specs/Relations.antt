@@ -80,12 +80,8 @@ abbrev pub Outlined : List Word → Option Outline → Type 0
 Outlined ws None = outline_of ws ≡ None
 Outlined ws (Some o) = outline_of ws ≡ Some (o.name.now, o.corners)
 
--- what a line of the body says, where it says anything
-abbrev pub ItemSaid : List Word → Item → Type 0
-ItemSaid ws Terminal = is_some (terminal_of ws) ≡ true
-ItemSaid ws (Block o) = (is_some (terminal_of ws) ≡ false) × (outline_of ws ≡ Some (o.name.now, o.corners))
-
--- what the reader of a line of the body answers: what it says, or none where it breaks its form
+-- what the reader of a line of the body answers, none where the line breaks its form
 abbrev pub Says : List Word → Option Item → Type 0
-Says ws (Some item) = ItemSaid ws item
+Says ws (Some Terminal) = is_some (terminal_of ws) ≡ true
+Says ws (Some (Block o)) = (is_some (terminal_of ws) ≡ false) × (outline_of ws ≡ Some (o.name.now, o.corners))
 Says ws None = (is_some (terminal_of ws) ≡ false) × (outline_of ws ≡ None)
