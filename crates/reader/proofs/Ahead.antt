@@ -1,13 +1,9 @@
 -- The lines that are left.
-use Rattle.std.proofs.Common.{◌≡◌, ℕ, zero, suc, ◌+◌, ◌-◌, ◌≤◌, Bool, true, false, cond, eqb, List, [], ◌∷◌, length, take, drop, sym, refl, ap, ◌∙◌, arith}
-use Rattle.std.specs.List.{AllByRecursion}
-use Rattle.std.proofs.lemmas.List.{length-take, length-reverse}
+use Rattle.std.proofs.Common.{ℕ, suc, ◌+◌, ◌≤◌, Bool, true, false, cond, eqb, List, [], ◌∷◌, length, ap, arith}
+use Rattle.std.proofs.lemmas.List.{length-take}
 use Rattle.std.proofs.lemmas.Bool.{cond_both}
-use Rattle.grammar.specs.Lines.{Line, line_of, begun, lines_from, skipped, used, used_from}
+use Rattle.grammar.specs.Lines.{Line, line_of, begun, lines_from, skipped, used}
 use Rattle.grammar.proofs.Following.{line_stands}
-use Rattle.stack.specs.declared.stack.Stack.{Stack}
-use Rattle.stack.specs.Stacked.{held, room}
-use Rattle.reader.specs.declared.blocks.Found.{Found}
 use Rattle.reader.specs.declared.lines.UsedLines.{UsedLines}
 use Rattle.reader.specs.Left.{lines_left}
 
@@ -40,8 +36,3 @@ used_few (l ∷ ls) =
 pub few_left : (s : UsedLines) → length (lines_left s) ≤ 65536
 few_left s =
     omega (arith, used_few (lines_from true s.number s.place s.rest.now), lines_few true s.number s.place s.rest.now, s.near)
-
--- a stack holds no more than it has room for
-pub few_found : (s : Stack Found) → length (held s) ≤ room s
-unfolding held room
-few_found s = omega (arith, length-reverse (take s.len s.items.now), length-take s.len s.items.now, s.fits)

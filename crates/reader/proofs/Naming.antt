@@ -1,16 +1,15 @@
 -- The blocks of a text have their names in it.
-use Rattle.std.proofs.Common.{◌≡◌, ℕ, zero, suc, ◌+◌, ◌-◌, ◌≤◌, Bool, true, false, cond, ◌&&◌, eqb, leb, List, [], ◌∷◌, ◌++◌, length, take, drop, Some, Ok, sym, refl, ap, ◌∙◌, subst, arith}
+use Rattle.std.proofs.Common.{◌≡◌, ℕ, ◌+◌, ◌-◌, ◌≤◌, Bool, true, false, cond, ◌&&◌, eqb, leb, List, [], ◌∷◌, ◌++◌, length, take, drop, Some, Ok, sym, refl, ap, ◌∙◌, subst, arith}
 use Rattle.std.specs.List.{AllByRecursion}
-use Rattle.std.proofs.lemmas.List.{length-drop, length-take, drop-take, drop-drop, take-take}
+use Rattle.std.proofs.lemmas.List.{length-drop, drop-take, drop-drop, take-take}
 use Rattle.std.proofs.lemmas.Bool.{cond-true, cond_both, and_from, le-leb}
 use Rattle.names.specs.Names.{is_name}
 use Rattle.names.specs.Entries.{marked}
 use Rattle.grammar.specs.Words.{indent}
-use Rattle.grammar.specs.Lines.{Line, line_of, begun, lines_from, skipped, used, used_from}
-use Rattle.grammar.specs.Relations.{BlockLine}
+use Rattle.grammar.specs.Lines.{Line, line_of, begun, lines_from, skipped, used}
 use Rattle.grammar.proofs.Splits.{first_stands}
 use Rattle.grammar.proofs.Following.{line_stands}
-use Rattle.reader.specs.Text.{Block, words_of, said, entry_of}
+use Rattle.reader.specs.Text.{Block, said, entry_of}
 use Rattle.reader.specs.Found.{Named}
 use Rattle.reader.specs.Accepted.{BlockIn, BodyLines, end_of_lines, terminal_line, block_line}
 use Rattle.reader.proofs.Ahead.{line_within}

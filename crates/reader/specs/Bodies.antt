@@ -3,7 +3,9 @@ use Rattle.std.specs.Prelude.{◌≡◌, ℕ, ◌+◌, ◌≤◌, List, [], ◌�
 use Rattle.rules.specs.declared.refusals.Refusal.{Refusal}
 use Rattle.grammar.specs.Lines.{Line}
 use Rattle.reader.specs.declared.counts.Counts.{Counts}
+use Rattle.reader.specs.declared.blocks.Blocks.{Blocks}
 use Rattle.reader.specs.Text.{Block, counted, body, said_by, said}
+use Rattle.reader.specs.Found.{blocks_of}
 
 -- the lines in front of the body have been read, or one is refused
 abbrev pub CountsRead : List Line → List Line → Result Counts Refusal → Type 0
@@ -15,12 +17,12 @@ abbrev pub LineRead : Line → List Block → ℕ → Result ℕ Refusal → Lis
 LineRead l before t (Ok u) after = (u ≤ t + 1) × ((c : Counts) (ls : List Line) → body c before t (l ∷ ls) ≡ body c after u ls)
 LineRead l before t (Err e) after = (c : Counts) (ls : List Line) → body c before t (l ∷ ls) ≡ Err e
 
--- all lines of the body have been read, or one is refused
-abbrev pub BodyRead : List Line → Result ℕ Refusal → List Block → Type 0
-BodyRead ls (Ok t) blocks = (c : Counts) → body c [] 0 ls ≡ counted c blocks t
-BodyRead ls (Err e) blocks = (c : Counts) → body c [] 0 ls ≡ Err e
+-- all lines of the body have been read behind these blocks, or one is refused
+abbrev pub BodyRead : List Line → List Block → Result ℕ Refusal → List Block → Type 0
+BodyRead ls before (Ok t) after = (c : Counts) → body c before 0 ls ≡ counted c after t
+BodyRead ls before (Err e) after = (c : Counts) → body c before 0 ls ≡ Err e
 
 -- the whole text has been read, or is refused
-abbrev pub TextRead : List ℕ → Result (Unit {0}) Refusal → List Block → Type 0
-TextRead text (Ok _) blocks = said text ≡ Ok blocks
-TextRead text (Err e) blocks = said text ≡ Err e
+abbrev pub TextRead : List ℕ → Result Blocks Refusal → Type 0
+TextRead text (Ok bs) = said text ≡ Ok (blocks_of bs)
+TextRead text (Err e) = said text ≡ Err e

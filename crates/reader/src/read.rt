@@ -1,12 +1,11 @@
 // A whole text.
-ghost use Rattle.std.specs.Prelude.{◌≡◌, ◌≤◌, List, [], ◌++◌, map, length, drop, Ok};
+ghost use Rattle.std.specs.Prelude.{◌≡◌, ◌≤◌, List, ◌++◌, map, length, drop, Ok};
 ghost use Rattle.std.specs.List.{AllByRecursion};
-ghost use Rattle.stack.specs.Stacked.{held, room};
 ghost use Rattle.reader.specs.Bodies.{TextRead};
-ghost use Rattle.reader.specs.Found.{block_of, blocks_of, Named};
+ghost use Rattle.reader.specs.Found.{block_of, Named};
 ghost use Rattle.reader.specs.Text.{Block, said, in_room, entry_of, answer_of, records_after};
 
-use crate::blocks::Found;
+use crate::blocks::{Blocks, Found};
 use crate::body::read_body;
 use crate::counts::Counts;
 use crate::heads::take_counts;
@@ -14,25 +13,25 @@ use crate::lines::UsedLines;
 use names::entries::Entry;
 use rules::blocks::MOST_BLOCKS;
 use rules::refusals::Refusal;
-use stack::stack::Stack;
 
-// Finds the blocks of a text, in line order.
-#[tactic(auto, using(crate::proofs::Ahead::few_found))]
-fn read_text<'a>(text: &'a [u8], found: &mut Stack<'_, Found<'a>>) -> Result<(), Refusal>
-    requires empty { held found.old ≡ [] }
-    requires room { room found.old ≡ 512 }
-    ensures { TextRead text.now result (blocks_of (held found.new)) }
+// The blocks of a text, in line order.
+fn read_text<'a, 'b>(
+    text: &'a [u8],
+    memory: &'b mut [Found<'a>; MOST_BLOCKS],
+) -> Result<Blocks<'a, 'b>, Refusal>
+    ensures { TextRead text.now result }
 {
     let mut lines = UsedLines::of(text)?;
     let counts = take_counts(&mut lines)?;
-    let terminals = read_body(lines, found)?;
+    let mut blocks = Blocks::over(memory);
+    let terminals = read_body(lines, &mut blocks)?;
     let right = Counts {
         soft: 0,
-        hard: found.len() as u32,
+        hard: blocks.as_slice().len() as u32,
         terminals,
     };
     if counts == right {
-        Ok(())
+        Ok(blocks)
     } else {
         Err(Refusal::WrongCount)
     }
@@ -55,13 +54,12 @@ pub fn read_blocks(text: &[u8], records: &mut [Entry]) -> Result<usize, Refusal>
     ensures records { records.new ≡ records_after (in_room (length records.old) (said text.now)) records.old }
     ensures names { (blocks : List Block) → said text.now ≡ Ok blocks → AllByRecursion (Named text.now) blocks }
 {
-    let mut room = [Found::none(text); MOST_BLOCKS];
-    let mut found = Stack::over(&mut room);
-    read_text(text, &mut found)?;
-    let blocks = found.as_slice();
-    if records.len() < blocks.len() {
+    let mut memory = [Found::none(text); MOST_BLOCKS];
+    let blocks = read_text(text, &mut memory)?;
+    let found = blocks.as_slice();
+    if records.len() < found.len() {
         return Err(Refusal::MemoryTooShort);
     }
-    fill(records, blocks);
-    Ok(blocks.len())
+    fill(records, found);
+    Ok(found.len())
 }

@@ -1,20 +1,19 @@
 // How blocks are found.
-ghost use Rattle.std.specs.Prelude.{◌≡◌, ◌+◌, ◌≤◌, length, map, Some};
+ghost use Rattle.std.specs.Prelude.{◌≡◌, ◌+◌, ◌≤◌, [], length, map, Some};
 ghost use Rattle.std.specs.List.{list_any};
 ghost use Rattle.std.specs.Str.{bytes_eq};
-ghost use Rattle.stack.specs.Stacked.{held, room};
 ghost use Rattle.grammar.specs.Words.{indent};
 ghost use Rattle.grammar.specs.Forms.{outline_of, size_of};
 ghost use Rattle.reader.specs.Text.{block_in, entry_of, known, words_of, sized_block};
 ghost use Rattle.reader.specs.Left.{line_at};
 ghost use Rattle.reader.specs.Found.{block_of, blocks_of, BlockRead};
 
-use super::Found;
+use super::{Blocks, Found};
 use crate::lines::Used;
 use grammar::indent_of;
 use grammar::outlines::Outline;
 use names::entries::Entry;
-use rules::blocks::Size;
+use rules::blocks::{MOST_BLOCKS, Size};
 use rules::refusals::Refusal;
 use stack::stack::Stack;
 
@@ -59,28 +58,40 @@ fn is_known(found: &[Found<'_>], name: &[u8]) -> bool
     found.iter().any(|block| block.name == name)
 }
 
-// Puts the block of a line behind those that were found.
-#[tactic(auto, using(crate::proofs::Finding::name_within, crate::proofs::Finding::length_blocks))]
-pub(crate) fn add_block<'a>(
-    line: Used<'a>,
-    outline: Outline<'a>,
-    found: &mut Stack<'_, Found<'a>>,
-) -> Result<(), Refusal>
-    requires says { outline_of (words_of (line_at line)) ≡ Some (outline.name.now, outline.corners) }
-    requires room { room found.old ≡ 512 }
-    ensures room { room found.new ≡ 512 }
-    ensures read { BlockRead (sized_block (blocks_of (held found.old)) (line_at line.entry) outline.entry.name.now (size_of outline.entry.corners)) (blocks_of (held found.old)) result (blocks_of (held found.new)) }
-{
-    let Outline { name, corners } = outline;
-    let size = corners.size().ok_or(Refusal::WrongVertices(line.number))?;
-    if !size.fits() {
-        return Err(Refusal::SideOutOfRange(line.number));
+impl<'a, 'b> Blocks<'a, 'b> {
+    // No blocks, over that memory.
+    pub(crate) fn over(memory: &'b mut [Found<'a>; MOST_BLOCKS]) -> Blocks<'a, 'b>
+        ensures { blocks_of result ≡ [] }
+    {
+        Blocks {
+            found: Stack::over(memory),
+        }
     }
-    if is_known(found.as_slice(), name) {
-        return Err(Refusal::RepeatedName(line.number));
+
+    // Puts the block of a line behind those that were found.
+    pub(crate) fn add(&mut self, line: Used<'a>, outline: Outline<'a>) -> Result<(), Refusal>
+        requires { outline_of (words_of (line_at line)) ≡ Some (outline.name.now, outline.corners) }
+        ensures { BlockRead (sized_block (blocks_of self.old) (line_at line.entry) outline.entry.name.now (size_of outline.entry.corners)) (blocks_of self.old) result (blocks_of self.new) }
+    {
+        let Outline { name, corners } = outline;
+        let size = corners.size().ok_or(Refusal::WrongVertices(line.number))?;
+        if !size.fits() {
+            return Err(Refusal::SideOutOfRange(line.number));
+        }
+        if is_known(self.found.as_slice(), name) {
+            return Err(Refusal::RepeatedName(line.number));
+        }
+        if self.found.push(Found::of(line, name, size)).is_err() {
+            return Err(Refusal::TooManyBlocks(line.number));
+        }
+        Ok(())
     }
-    if found.push(Found::of(line, name, size)).is_err() {
-        return Err(Refusal::TooManyBlocks(line.number));
+
+    // The blocks, in line order.
+    pub(crate) fn as_slice(&self) -> &[Found<'a>]
+        ensures blocks { map block_of result.now ≡ blocks_of self.now }
+        ensures few { length result.now ≤ 512 }
+    {
+        self.found.as_slice()
     }
-    Ok(())
 }

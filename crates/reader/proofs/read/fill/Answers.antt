@@ -1,4 +1,4 @@
-use Rattle.std.proofs.Common.{set, ap, ◌∙◌, rules}
+use Rattle.std.proofs.Common.{set, ap, ◌∙◌}
 use Rattle.reader.proofs.Filling.{one_record}
 use Rattle.reader.proofs.read.fill.Goals as goal
 
