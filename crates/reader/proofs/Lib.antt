@@ -4,4 +4,3 @@ pub mod Gathering
 pub mod Dues
 pub mod Accepting
 pub mod Naming
-pub mod Filling
