@@ -1,7 +1,7 @@
 pub mod Cuts
 pub mod Splits
+pub mod Gathering
 pub mod Exact
-pub mod Fronts
 pub mod Tested
 pub mod Rooms
 pub mod Following

@@ -1,5 +1,5 @@
 -- Room for 24 words is enough: no form has so many.
-use Rattle.std.proofs.Common.{◌≡◌, ℕ, ◌-◌, ◌≤◌, List, map, length, take, Some, None, Option, sym, ap, ◌∙◌, ⊎_elim, arith}
+use Rattle.std.proofs.Common.{◌≡◌, ◌≤◌, List, length, take, Some, None, Option, sym, ap, ◌∙◌, ⊎_elim, arith}
 use Rattle.std.proofs.lemmas.List.{take_all, length-take-le}
 use Rattle.std.proofs.lemmas.Bool.{cases_lt}
 use Rattle.words.specs.Words.{Word}
@@ -35,8 +35,3 @@ module _ (ws : List Word) where
       let v = line.vertices in
       omega (arith, ap length line.form, ap length v.v1.form, ap length v.v2.form, ap length v.v3.form, ap length v.v4.form))
       ws
-
--- the words found in room for 24, in the shape of a slice from the front
-pub found_words : {X : Type 0} (f : X → Word) (room : List X) (n : ℕ) (ws : List Word) → length room ≡ 24 → map f (take n room) ≡ take (length room) ws → map f (take (n - 0) room) ≡ take 24 ws
-found_words f room n ws h e =
-    let same : n - 0 ≡ n = omega arith in ap (λ k. map f (take k room)) same ∙ e ∙ ap (λ k. take k ws) h

@@ -1,4 +1,5 @@
 pub mod Words
+pub mod Gathered
 pub mod Lines
 pub mod Forms
 pub mod Relations

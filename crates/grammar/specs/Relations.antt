@@ -9,7 +9,7 @@ use Rattle.grammar.specs.declared.outlines.Point.{Point}
 use Rattle.grammar.specs.declared.outlines.Corners.{Corners}
 use Rattle.grammar.specs.declared.outlines.Outline.{Outline}
 use Rattle.grammar.specs.declared.outlines.Item.{Item}
-use Rattle.grammar.specs.declared.outlines.Item.TheVariants.{Terminal, Block, Neither}
+use Rattle.grammar.specs.declared.outlines.Item.TheVariants.{Terminal, Block}
 use Rattle.grammar.specs.Forms.{terminal_of, vertex_of, outline_of}
 
 -- the line is the header
@@ -80,8 +80,8 @@ abbrev pub Outlined : List Word → Option Outline → Type 0
 Outlined ws None = outline_of ws ≡ None
 Outlined ws (Some o) = outline_of ws ≡ Some (o.name.now, o.corners)
 
--- what the reader of a line of the body answers
-abbrev pub Says : List Word → Item → Type 0
-Says ws Terminal = is_some (terminal_of ws) ≡ true
-Says ws (Block o) = (is_some (terminal_of ws) ≡ false) × (outline_of ws ≡ Some (o.name.now, o.corners))
-Says ws Neither = (is_some (terminal_of ws) ≡ false) × (outline_of ws ≡ None)
+-- what the reader of a line of the body answers, none where the line breaks its form
+abbrev pub Says : List Word → Option Item → Type 0
+Says ws (Some Terminal) = is_some (terminal_of ws) ≡ true
+Says ws (Some (Block o)) = (is_some (terminal_of ws) ≡ false) × (outline_of ws ≡ Some (o.name.now, o.corners))
+Says ws None = (is_some (terminal_of ws) ≡ false) × (outline_of ws ≡ None)

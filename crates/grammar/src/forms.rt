@@ -1,7 +1,8 @@
-// What the words of a line say, by its form.
+// What the words of a line say, by its form. A byte string inside a slice pattern is matched byte by byte, and the proof did not
+// close at that many cases (the header's returns stayed open), so `is` tests each word.
 ghost use Rattle.std.specs.Prelude.{◌≡◌, map, is_some};
 ghost use Rattle.grammar.specs.Forms.{header_of, count_of, terminal_of, corners_of, size_of};
-ghost use Rattle.grammar.specs.Relations.{FirstVertex, Outlined};
+ghost use Rattle.grammar.specs.Relations.{FirstVertex, Outlined, rectangle};
 
 use crate::outlines::{Corners, Outline, Point};
 use names::is_name;
@@ -12,23 +13,16 @@ use words::word::{is, number_of};
 pub(crate) fn is_header(words: &[&[u8]]) -> bool
     ensures { result ≡ is_some (header_of (map (λ w. w.now) words.now)) }
 {
-    let [maker, kind, version] = words else {
-        return false;
-    };
-    is(maker, b"UCSC") & is(kind, b"blocks") & is(version, b"1.0")
+    matches!(words, [maker, kind, version] if is(maker, b"UCSC") && is(kind, b"blocks") && is(version, b"1.0"))
 }
 
 // The count that the words give under a label.
 pub(crate) fn count_of(label: &[u8], words: &[&[u8]]) -> Option<u32>
     ensures { result ≡ count_of label.now (map (λ w. w.now) words.now) }
 {
-    let [front, colon, digits] = words else {
-        return None;
-    };
-    if is(front, label) & is(colon, b":") {
-        number_of(digits)
-    } else {
-        None
+    match words {
+        [front, colon, digits] if *front == label && is(colon, b":") => number_of(digits),
+        _ => None,
     }
 }
 
@@ -36,45 +30,33 @@ pub(crate) fn count_of(label: &[u8], words: &[&[u8]]) -> Option<u32>
 pub(crate) fn is_terminal(words: &[&[u8]]) -> bool
     ensures { result ≡ is_some (terminal_of (map (λ w. w.now) words.now)) }
 {
-    let [name, kind] = words else {
-        return false;
-    };
-    is_name(name) & is(kind, b"terminal")
+    matches!(words, [name, kind] if is_name(name) && is(kind, b"terminal"))
 }
 
 // The vertex in front of the words, and the words behind it.
 pub(crate) fn vertex_of<'a, 'b>(words: &'a [&'b [u8]]) -> Option<(Point, &'a [&'b [u8]])>
     ensures { FirstVertex (map (λ w. w.now) words.now) result }
 {
-    let [open, x, comma, y, close, rest @ ..] = words else {
-        return None;
-    };
-    if !(is(open, b"(") & is(comma, b",") & is(close, b")")) {
-        return None;
+    match words {
+        [open, x, comma, y, close, rest @ ..]
+            if is(open, b"(") && is(comma, b",") && is(close, b")") => {
+            let x = number_of(x)?;
+            let y = number_of(y)?;
+            Some((Point { x, y }, rest))
+        }
+        _ => None,
     }
-    let Some(x) = number_of(x) else {
-        return None;
-    };
-    let Some(y) = number_of(y) else {
-        return None;
-    };
-    Some((Point { x, y }, rest))
 }
 
 // The vertices, where the words are four and no more.
+#[tactic(auto, using(crate::proofs::Tested::more_words))]
 pub(crate) fn corners_of(words: &[&[u8]]) -> Option<Corners>
     ensures { result ≡ corners_of (map (λ w. w.now) words.now) }
 {
-    let Some((first, words)) = vertex_of(words) else {
-        return None;
-    };
-    let Some((second, words)) = vertex_of(words) else {
-        return None;
-    };
-    let Some((third, words)) = vertex_of(words) else {
-        return None;
-    };
-    let Some((fourth, [])) = vertex_of(words) else {
+    let (first, words) = vertex_of(words)?;
+    let (second, words) = vertex_of(words)?;
+    let (third, words) = vertex_of(words)?;
+    let (fourth, []) = vertex_of(words)? else {
         return None;
     };
     Some(Corners {
@@ -86,43 +68,45 @@ pub(crate) fn corners_of(words: &[&[u8]]) -> Option<Corners>
 }
 
 // The block's name and vertices that the words give.
+#[tactic(auto, using(crate::proofs::Tested::outline_short))]
 pub(crate) fn outline_of<'a>(words: &[&'a [u8]]) -> Option<Outline<'a>>
     ensures { Outlined (map (λ w. w.now) words.now) result }
 {
     let [name, kind, four, rest @ ..] = words else {
         return None;
     };
-    if !(is_name(name) & is(kind, b"hardrectilinear") & is(four, b"4")) {
+    if !(is_name(name) && is(kind, b"hardrectilinear") && is(four, b"4")) {
         return None;
     }
-    match corners_of(rest) {
-        Some(corners) => Some(Outline { name, corners }),
-        None => None,
-    }
+    let corners = corners_of(rest)?;
+    Some(Outline { name, corners })
 }
 
 impl Corners {
+    // The corners of the rectangle of this size at the origin.
+    fn of(size: Size) -> Corners
+        ensures { result ≡ rectangle size }
+    {
+        let Size { width, height } = size;
+        Corners {
+            first: Point { x: 0, y: 0 },
+            second: Point { x: 0, y: height },
+            third: Point {
+                x: width,
+                y: height,
+            },
+            fourth: Point { x: width, y: 0 },
+        }
+    }
+
     // The size of the rectangle at the origin whose corners these are.
     pub fn size(&self) -> Option<Size>
         ensures { result ≡ size_of self.now }
     {
-        let Corners {
-            first,
-            second,
-            third,
-            fourth,
-        } = *self;
-        let (width, height) = (third.x, third.y);
-        if first.x == 0
-            && first.y == 0
-            && second.x == 0
-            && second.y == height
-            && fourth.x == width
-            && fourth.y == 0
-        {
-            Some(Size { width, height })
-        } else {
-            None
-        }
+        let size = Size {
+            width: self.third.x,
+            height: self.third.y,
+        };
+        (*self == Corners::of(size)).then_some(size)
     }
 }

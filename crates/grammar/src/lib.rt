@@ -1,5 +1,6 @@
 #![tactic(auto)]
 // The lines of a .blocks text, and what they say.
+mod first_words;
 mod forms;
 pub mod laws;
 pub mod lines;

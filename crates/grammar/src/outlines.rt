@@ -27,6 +27,4 @@ pub struct Outline<'a> {
 pub enum Item<'a> {
     Terminal,
     Block(Outline<'a>),
-    // it breaks its form
-    Neither,
 }

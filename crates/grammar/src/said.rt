@@ -4,43 +4,35 @@ ghost use Rattle.grammar.specs.Words.{words};
 ghost use Rattle.grammar.specs.Forms.{header_of, count_of};
 ghost use Rattle.grammar.specs.Relations.{Says};
 
+use crate::first_words::FirstWords;
 use crate::forms::{count_of, is_header, is_terminal, outline_of};
 use crate::outlines::Item;
-use crate::split::words_into;
-
-// Room for the words of the longest form, 23, and for one more.
-const ROOM: usize = 24;
 
 // Whether a line is the header.
+#[tactic(auto, using(crate::proofs::Rooms::header_room))]
 pub fn is_header_line(line: &[u8]) -> bool
     ensures { result ≡ is_some (header_of (words line.now)) }
 {
-    let mut room: [&[u8]; ROOM] = [&line[0..0]; ROOM];
-    let n = words_into(line, &mut room);
-    is_header(&room[0..n])
+    is_header(FirstWords::of(line).as_slice())
 }
 
 // The count that a line gives under a label.
+#[tactic(auto, using(crate::proofs::Rooms::count_room))]
 pub fn count_line(label: &[u8], line: &[u8]) -> Option<u32>
     ensures { result ≡ count_of label.now (words line.now) }
 {
-    let mut room: [&[u8]; ROOM] = [&line[0..0]; ROOM];
-    let n = words_into(line, &mut room);
-    count_of(label, &room[0..n])
+    count_of(label, FirstWords::of(line).as_slice())
 }
 
-// What a line of the body says.
-pub fn item_of(line: &[u8]) -> Item<'_>
+// What a line of the body says; none if it breaks its form.
+#[tactic(auto, using(crate::proofs::Rooms::terminal_room, crate::proofs::Rooms::outline_room))]
+pub fn item_of(line: &[u8]) -> Option<Item<'_>>
     ensures { Says (words line.now) result }
 {
-    let mut room: [&[u8]; ROOM] = [&line[0..0]; ROOM];
-    let n = words_into(line, &mut room);
-    let words = &room[0..n];
+    let first = FirstWords::of(line);
+    let words = first.as_slice();
     if is_terminal(words) {
-        return Item::Terminal;
+        return Some(Item::Terminal);
     }
-    match outline_of(words) {
-        Some(outline) => Item::Block(outline),
-        None => Item::Neither,
-    }
+    outline_of(words).map(|outline| Item::Block(outline))
 }

@@ -1,5 +1,5 @@
 // A line cut into words.
-ghost use Rattle.std.specs.Prelude.{◌≡◌, ◌≤◌, map, length, take};
+ghost use Rattle.std.specs.Prelude.{◌≡◌};
 ghost use Rattle.grammar.specs.Words.{blank, mark, words, indent, FirstWord};
 
 use words::split::Alphabet;
@@ -35,22 +35,4 @@ pub(crate) fn next_word(line: &[u8]) -> Option<(&[u8], &[u8])>
     ensures { FirstWord line.now result }
 {
     words::split::next_word::<Marked>(line)
-}
-
-// The words of a line, as many as there is room for, and how many these are.
-pub(crate) fn words_into<'a>(line: &'a [u8], room: &mut [&'a [u8]]) -> usize
-    ensures within { result ≤ length room.new }
-    ensures found { map (λ w. w.now) (take result room.new) ≡ take (length room.new) (words line.now) }
-{
-    let mut rest = line;
-    let mut n = 0;
-    while n < room.len() {
-        let Some((word, after)) = next_word(rest) else {
-            break;
-        };
-        room[n] = word;
-        n += 1;
-        rest = after;
-    }
-    n
 }

@@ -1,3 +1,2 @@
-pub mod Bytes
 pub mod Decimals
 pub mod Marked

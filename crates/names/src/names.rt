@@ -18,19 +18,14 @@ fn is_name_byte(byte: u8) -> bool
 fn all_name_bytes(bytes: &[u8]) -> bool
     ensures { result ≡ all_name_bytes bytes.now }
 {
-    for byte in bytes {
-        if !is_name_byte(*byte) {
-            return false;
-        }
-    }
-    true
+    bytes.iter().all(|byte| is_name_byte(*byte))
 }
 
 // Whether the bytes are a name.
 pub fn is_name(bytes: &[u8]) -> bool
     ensures { result ≡ is_name bytes.now }
 {
-    1 <= bytes.len() && bytes.len() <= LONGEST_NAME && all_name_bytes(bytes)
+    (1..=LONGEST_NAME).contains(&bytes.len()) && all_name_bytes(bytes)
 }
 
 // The name that an entry marks in a text; none if the bytes do not lie in it or are no name.
@@ -39,9 +34,5 @@ pub fn name_of(text: &[u8], entry: Entry) -> Option<&[u8]>
 {
     let start = entry.start as usize;
     let end = start + entry.len as usize;
-    if end > text.len() {
-        return None;
-    }
-    let bytes = &text[start..end];
-    if is_name(bytes) { Some(bytes) } else { None }
+    text.get(start..end).filter(|bytes| is_name(bytes))
 }

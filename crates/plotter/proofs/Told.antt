@@ -1,8 +1,8 @@
 -- The plan of the blocks that a text tells, and the text that is written of it.
-use Rattle.std.proofs.Common.{◌≡◌, ℕ, ◌<◌, ◌≤◌, false, ltb, List, map, length, take, None, Err, Result, sym, ap, ◌∙◌, subst, arith}
+use Rattle.std.proofs.Common.{◌≡◌, ℕ, ◌<◌, ◌≤◌, false, not, eqb, ltb, List, map, length, take, None, Err, Result, sym, ap, ◌∙◌, subst, arith}
 use Rattle.std.proofs.lemmas.List.FromFn.{length-map-range_with_len}
 use Rattle.std.proofs.lemmas.List.{length-map}
-use Rattle.std.proofs.lemmas.Bool.{cond-false, le-ltb}
+use Rattle.std.proofs.lemmas.Bool.{cond-false, le-ltb, eq-eqb, not_from_true}
 use Rattle.rules.specs.declared.blocks.Size.{Size}
 use Rattle.rules.specs.declared.placements.Placement.{Placement}
 use Rattle.rules.specs.declared.refusals.Refusal.{Refusal}
@@ -16,8 +16,7 @@ use Rattle.theorems.specs.Steps.{plan_loaded}
 use Rattle.plan.specs.declared.states.Settled.{Settled}
 use Rattle.plan.specs.Meaning.{settled_plan}
 use Rattle.writer.specs.Texts.{pl_text}
-use Rattle.writer.specs.Answers.{unnamed, too_short, writer_refusal, Writes}
-use Rattle.writer.proofs.Answering.{room_last}
+use Rattle.writer.specs.Answers.{unnamed, no_name, too_short, writer_refusal, Writes}
 use Rattle.heap_tree.specs.Heap.{heap_given, heap_refusal, HeapLoad}
 use Rattle.heap_tree.proofs.Passing.{none_first}
 use Rattle.plotter.specs.Plots.{size_of, plan_of_entries}
@@ -59,6 +58,15 @@ pub places_told : (es : List Entry) (p : Plan) (r : List Placement) → p ≡ pl
 places_told es p r e h =
     ap (λ n. take n r) (sym (block_count_is es)) ∙ subst (λ (q : Plan). take (block_count q) r ≡ placements q) e h
 
+-- where a text has all tests of the writer passed but that of room
+room_last : (text : List ℕ) (es : List Entry) (ps : List Placement) (room : ℕ) → length text ≤ 65536 → length es ≡ length ps → first (unnamed text es) 0 (length es) ≡ None → too_short (pl_text text es ps) room ≡ writer_refusal text es ps room
+unfolding writer_refusal
+room_last text es ps room short same named =
+    sym
+    (cond-false (ltb 65536 (length text)) _ _ (le-ltb 65536 (length text) short) ∙
+    cond-false (not (eqb (length es) (length ps))) _ _ (not_from_true _ (eq-eqb (length es) (length ps) same)) ∙
+    ap (λ o. when_found o no_name (too_short (pl_text text es ps) room)) named)
+
 -- the only test of the writer that is left is that of room
 pub only_room : (text : List ℕ) (es : List Entry) (qs : List Placement) (written before after : List ℕ) (r : Result ℕ Refusal) → length text ≤ 65536
     → ((k : ℕ) → k < length es → unnamed text es k ≡ false) → qs ≡ placements (plan_of_entries es) → pl_text text es (placements (plan_of_entries es)) ≡ written
@@ -69,4 +77,4 @@ only_room text es qs written before after r short named is text_is w =
     let all = none_first (unnamed text es) 0 (length es) (λ k l h. named k (omega arith)) in
     let told = subst (λ (ps : List Placement). Writes (writer_refusal text es ps (length before)) (pl_text text es ps) before after r) is w in
     subst (λ (t : List ℕ). Writes (too_short t (length before)) t before after r) text_is
-    (subst (λ o. Writes o (pl_text text es ps) before after r) (sym (room_last text es ps (length before) short same (sym all))) told)
+    (subst (λ o. Writes o (pl_text text es ps) before after r) (sym (room_last text es ps (length before) short same all)) told)

@@ -12,7 +12,7 @@ use Rattle.heap_tree.specs.Heap.{heap_given}
 
 -- the size that an entry tells
 abbrev pub size_of : Entry → Size
-size_of e = record { width = e.width; height = e.height }
+size_of e = e.size
 
 -- the plan of the blocks: block 0 is the root, blocks 2k + 1 and 2k + 2 are the left and the right child of block k, all free
 abbrev pub plan_of_entries : List Entry → Plan

@@ -11,7 +11,7 @@ use Rattle.grammar.specs.Lines.{Line, used_from}
 use Rattle.grammar.specs.Forms.{header_of, count_of, terminal_of, outline_of, size_of}
 use Rattle.grammar.specs.Relations.{Header, CountLine, rectangle, BlockLine}
 use Rattle.grammar.proofs.Exact.{some_since, header_law, count_law, terminal_law, size_law, block_law}
-use Rattle.reader.specs.declared.spots.Counts.{Counts}
+use Rattle.reader.specs.declared.counts.Counts.{Counts}
 use Rattle.reader.specs.Text.{Answer, Block, and_then, known, words_of, block_in, new_block, sized_block, outlined_block, counted, body, header_due, count_found, count_due, said_by}
 use Rattle.reader.specs.Accepted.{BlockIn, BodyLines, end_of_lines, terminal_line, block_line, Accepted, AcceptedLaw}
 use Rattle.reader.proofs.Dues.{then_body, then_terminals, then_hard, then_soft}

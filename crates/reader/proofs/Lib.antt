@@ -1,7 +1,6 @@
 pub mod Ahead
-pub mod Known
-pub mod Marking
+pub mod Finding
 pub mod Gathering
 pub mod Dues
-pub mod Whole
 pub mod Accepting
+pub mod Naming

@@ -1,26 +1,24 @@
--- Blocks as records of a text.
-use Rattle.std.specs.Prelude.{◌≡◌, ℕ, List, map, take, Some, Ok, Err, Result}
+-- Blocks as they are found.
+use Rattle.std.specs.Prelude.{◌≡◌, ℕ, List, [], ◌∷◌, ◌++◌, map, reverse, Some, Ok, Err, Result}
 use Rattle.rules.specs.declared.refusals.Refusal.{Refusal}
-use Rattle.names.specs.declared.entries.Entry.{Entry}
-use Rattle.names.specs.Entries.{marked, name_of}
-use Rattle.reader.specs.Text.{Block, entry_of}
+use Rattle.names.specs.Entries.{name_of}
+use Rattle.stack.specs.Stacked.{held}
+use Rattle.reader.specs.declared.blocks.Found.{Found}
+use Rattle.reader.specs.declared.blocks.Blocks.{Blocks}
+use Rattle.reader.specs.Text.{Block, Answer, and_then, entry_of}
 
--- the block that a record stands for
-abbrev pub block_at : List ℕ → Entry → Block
-block_at text e = record { name = marked text e; start = e.start; size = record { width = e.width; height = e.height } }
+-- a block as the code holds it
+abbrev pub block_of : Found → Block
+block_of f = record { name = f.name.now; start = f.start; size = f.size }
 
--- the record marks a name in the text
-abbrev pub Marks : List ℕ → Entry → Type 0
-Marks text e = name_of text e ≡ Some (marked text e)
+-- the blocks that were found, in line order
+abbrev pub blocks_of : Blocks → List Block
+blocks_of bs = map block_of (reverse (held bs.found))
 
--- the blocks that the first n records stand for
-abbrev pub blocks_in : List ℕ → List Entry → ℕ → List Block
-blocks_in text found n = map (block_at text) (take n found)
-
--- the record of a block that was read, or why there is none
-abbrev pub EntryRead : List ℕ → Result Block Refusal → Result Entry Refusal → Type 0
-EntryRead text read (Ok e) = (read ≡ Ok (block_at text e)) × Marks text e
-EntryRead text read (Err x) = read ≡ Err x
+-- one more block has been read behind those before, or is refused
+abbrev pub BlockRead : Result Block Refusal → List Block → Result (Unit {0}) Refusal → List Block → Type 0
+BlockRead read before (Ok _) after = (next : List Block → Answer) → and_then read (λ b. next (before ++ b ∷ [])) ≡ next after
+BlockRead read before (Err e) after = read ≡ Err e
 
 -- the record of the block marks its name in the text
 abbrev pub Named : List ℕ → Block → Type 0

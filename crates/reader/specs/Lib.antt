@@ -1,5 +1,5 @@
 pub mod Text
-pub mod Spots
+pub mod Left
 pub mod Found
 pub mod Bodies
 pub mod Cases

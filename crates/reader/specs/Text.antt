@@ -1,5 +1,6 @@
 -- What a .blocks text says: its blocks, or why it is refused.
-use Rattle.std.specs.Prelude.{ℕ, ◌+◌, Bool, false, cond, not, ◌&&◌, ◌||◌, List, [], ◌∷◌, ◌++◌, map, length, drop, is_some, Some, None, Ok, Err, codes, Option, Result, ◌==◌, nat_le, nat_lt}
+use Rattle.std.specs.Prelude.{ℕ, ◌+◌, Bool, cond, not, ◌&&◌, List, [], ◌∷◌, ◌++◌, map, length, drop, is_some, Some, None, Ok, Err, codes, Option, Result, ◌==◌, nat_le, nat_lt}
+use Rattle.std.specs.List.{list_any}
 use Rattle.std.specs.Str.{bytes_eq}
 use Rattle.rules.specs.declared.blocks.Size.{Size}
 use Rattle.rules.specs.declared.refusals.Refusal.{Refusal}
@@ -11,7 +12,7 @@ use Rattle.grammar.specs.declared.outlines.Corners.{Corners}
 use Rattle.grammar.specs.Words.{words, indent}
 use Rattle.grammar.specs.Lines.{Line, used_from}
 use Rattle.grammar.specs.Forms.{header_of, count_of, terminal_of, outline_of, size_of}
-use Rattle.reader.specs.declared.spots.Counts.{Counts}
+use Rattle.reader.specs.declared.counts.Counts.{Counts}
 
 -- a block of a text: its name, where the name begins in the text, and its size
 pub record Block : Type 0 where
@@ -29,9 +30,8 @@ and_then (Ok a) next = next a
 and_then (Err e) next = Err e
 
 -- one of these blocks has this name
-unfoldable pub known : Word → List Block → Bool
-known n [] = false
-known n (b ∷ bs) = bytes_eq b.name n || known n bs
+abbrev pub known : Word → List Block → Bool
+known n bs = list_any (λ b. bytes_eq b.name n) bs
 
 -- the words of a line
 abbrev pub words_of : Line → List Word
@@ -106,7 +106,7 @@ in_room room (Err e) = Err e
 
 -- the record of a block
 abbrev pub entry_of : Block → Entry
-entry_of b = record { start = b.start; len = length b.name; width = b.size.width; height = b.size.height }
+entry_of b = record { start = b.start; len = length b.name; size = b.size }
 
 -- what the reader answers: the number of blocks, or the refusal
 abbrev pub answer_of : Answer → Result ℕ Refusal

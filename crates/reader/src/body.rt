@@ -1,61 +1,42 @@
 // The body of a text: block lines and terminal lines.
-ghost use Rattle.std.specs.Prelude.{◌<◌, ◌≤◌, length};
-ghost use Rattle.reader.specs.Spots.{line_at, Stands, Within};
-ghost use Rattle.reader.specs.Bodies.{Gathered, LineRead, BodyRead};
+ghost use Rattle.std.specs.Prelude.{◌<◌};
+ghost use Rattle.reader.specs.Left.{line_at, lines_left};
+ghost use Rattle.reader.specs.Found.{blocks_of};
+ghost use Rattle.reader.specs.Bodies.{LineRead, BodyRead};
 
-use crate::found::new_entry;
-use crate::lines::next_used;
-use crate::spots::{Spot, Tally, Used};
+use crate::blocks::Blocks;
+use crate::lines::{Used, UsedLines};
 use grammar::outlines::Item;
 use grammar::said::item_of;
-use names::entries::Entry;
 use rules::refusals::Refusal;
 
-// One more line of the body.
-fn add_line(
-    text: &[u8],
-    line: Used<'_>,
-    found: &mut [Entry],
-    tally: Tally,
-) -> Result<Tally, Refusal>
-    requires few { length text.now ≤ 65536 }
-    requires stands { Stands text.now (line_at line) }
-    requires gathered { Gathered text.now found.old tally }
-    requires terminals { tally.terminals ≤ 65536 }
-    ensures { LineRead text.now (line_at line.entry) found.old tally result found.new }
+// One more line of the body; answers how many terminals there are now.
+#[tactic(auto, unfolding(crate::specs::Text::body))]
+fn add_line<'a>(line: Used<'a>, terminals: u32, blocks: &mut Blocks<'a, '_>) -> Result<u32, Refusal>
+    requires { terminals < 65536 }
+    ensures { LineRead (line_at line.entry) (blocks_of blocks.old) terminals result (blocks_of blocks.new) }
 {
-    let Tally { blocks, terminals } = tally;
     match item_of(line.bytes) {
-        Item::Terminal => Ok(Tally {
-            blocks,
-            terminals: terminals + 1,
-        }),
-        Item::Block(outline) => {
-            let entry = new_entry(text, &found[0..blocks], line, outline)?;
-            found[blocks] = entry;
-            Ok(Tally {
-                blocks: blocks + 1,
-                terminals,
-            })
+        Some(Item::Terminal) => Ok(terminals + 1),
+        Some(Item::Block(outline)) => {
+            blocks.add(line, outline)?;
+            Ok(terminals)
         }
-        Item::Neither => Err(Refusal::WrongForm(line.number)),
+        None => Err(Refusal::WrongForm(line.number)),
     }
 }
 
-// All lines of the body from a spot on.
-pub(crate) fn read_body(text: &[u8], from: Spot, found: &mut [Entry]) -> Result<Tally, Refusal>
-    requires within { Within text.now from }
-    requires room { 512 ≤ length found.old }
-    ensures { BodyRead text.now from result found.new }
+// All lines of the body; answers how many terminals there are.
+#[tactic(auto, using(crate::proofs::Ahead::few_left), unfolding(crate::specs::Text::body))]
+pub(crate) fn read_body<'a>(
+    lines: UsedLines<'a>,
+    blocks: &mut Blocks<'a, '_>,
+) -> Result<u32, Refusal>
+    ensures { BodyRead (lines_left lines.entry) (blocks_of blocks.old) result (blocks_of blocks.new) }
 {
-    let mut spot = from;
-    let mut tally = Tally {
-        blocks: 0,
-        terminals: 0,
-    };
-    while let Some((line, behind)) = next_used(text, spot) {
-        tally = add_line(text, line, found, tally)?;
-        spot = behind;
+    let mut terminals = 0;
+    for line in lines {
+        terminals = add_line(line, terminals, blocks)?;
     }
-    Ok(tally)
+    Ok(terminals)
 }

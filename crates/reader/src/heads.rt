@@ -1,63 +1,43 @@
 // The lines in front of the body.
-ghost use Rattle.std.specs.Prelude.{◌≤◌, length};
 ghost use Rattle.reader.specs.Bodies.{CountsRead};
-ghost use Rattle.reader.specs.Spots.{Within, HeaderRead, CountRead};
+ghost use Rattle.reader.specs.Left.{lines_left, HeaderRead, CountRead};
 
-use crate::lines::next_used;
-use crate::spots::{Counts, Spot};
+use crate::counts::Counts;
+use crate::lines::UsedLines;
 use grammar::said::{count_line, is_header_line};
 use rules::refusals::Refusal;
 
-// The spot behind the header line.
-pub(crate) fn past_header(text: &[u8], from: Spot) -> Result<Spot, Refusal>
-    requires { Within text.now from }
-    ensures { HeaderRead text.now from result }
+// Takes the header line.
+fn take_header(lines: &mut UsedLines<'_>) -> Result<(), Refusal>
+    ensures { HeaderRead (lines_left lines.old) (lines_left lines.new) result }
 {
-    let Some((line, behind)) = next_used(text, from) else {
-        return Err(Refusal::NoHeader(0));
-    };
+    let line = lines.next().ok_or(Refusal::NoHeader(0))?;
     if is_header_line(line.bytes) {
-        Ok(behind)
+        Ok(())
     } else {
         Err(Refusal::NoHeader(line.number))
     }
 }
 
-// The count of the count line with this label, and the spot behind it.
-pub(crate) fn past_count(text: &[u8], label: &[u8], from: Spot) -> Result<(u32, Spot), Refusal>
-    requires { Within text.now from }
-    ensures { CountRead text.now label.now from result }
+// Takes the count line with this label.
+fn take_count(lines: &mut UsedLines<'_>, label: &[u8]) -> Result<u32, Refusal>
+    ensures { CountRead label.now (lines_left lines.old) (lines_left lines.new) result }
 {
-    let Some((line, behind)) = next_used(text, from) else {
-        return Err(Refusal::WrongCount);
-    };
-    match count_line(label, line.bytes) {
-        Some(n) => Ok((n, behind)),
-        None => Err(Refusal::WrongForm(line.number)),
-    }
+    let line = lines.next().ok_or(Refusal::WrongCount)?;
+    count_line(label, line.bytes).ok_or(Refusal::WrongForm(line.number))
 }
 
-// The counts of a text, and the spot behind its third count line.
-pub(crate) fn past_counts(text: &[u8]) -> Result<(Counts, Spot), Refusal>
-    requires { length text.now ≤ 65536 }
-    ensures { CountsRead text.now result }
+// Takes the header and the three count lines.
+pub(crate) fn take_counts(lines: &mut UsedLines<'_>) -> Result<Counts, Refusal>
+    ensures { CountsRead (lines_left lines.old) (lines_left lines.new) result }
 {
-    let spot = past_header(
-        text,
-        Spot {
-            place: 0,
-            number: 1,
-        },
-    )?;
-    let (soft, spot) = past_count(text, b"NumSoftRectangularBlocks", spot)?;
-    let (hard, spot) = past_count(text, b"NumHardRectilinearBlocks", spot)?;
-    let (terminals, spot) = past_count(text, b"NumTerminals", spot)?;
-    Ok((
-        Counts {
-            soft,
-            hard,
-            terminals,
-        },
-        spot,
-    ))
+    take_header(lines)?;
+    let soft = take_count(lines, b"NumSoftRectangularBlocks")?;
+    let hard = take_count(lines, b"NumHardRectilinearBlocks")?;
+    let terminals = take_count(lines, b"NumTerminals")?;
+    Ok(Counts {
+        soft,
+        hard,
+        terminals,
+    })
 }

@@ -1,13 +1,13 @@
 #![tactic(auto)]
 // The reader of .blocks texts.
+mod blocks;
 mod body;
-mod found;
+mod counts;
 mod heads;
 mod laws;
 mod lines;
 mod read;
 mod samples;
-mod spots;
 
 pub use laws::accepted_texts;
 pub use read::read_blocks;

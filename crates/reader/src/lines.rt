@@ -1,41 +1,23 @@
-// The lines of a text that are used, one by one.
-ghost use Rattle.std.specs.Prelude.{◌≡◌, ◌≤◌, length};
-ghost use Rattle.reader.specs.Spots.{Within, spot_behind, NextUsed};
+// The lines of a text that are used.
+ghost use Rattle.std.specs.Prelude.{◌+◌, ◌≤◌, length};
 
-use crate::spots::{Spot, Used};
-use grammar::lines::{is_skipped, next_line};
+mod stepping;
 
-// The spot behind the line of this number, where so many bytes are left.
-fn spot_behind(text: &[u8], number: u32, left: usize) -> Spot
-    requires left { left ≤ length text.now }
-    requires number { number ≤ 65537 }
-    ensures { result ≡ spot_behind text.now number left }
-{
-    Spot {
-        place: text.len() - left,
-        number: number + 1,
-    }
+// A line that is used: its number, where it begins in the text, and its bytes.
+#[derive(Clone, Copy)]
+pub(crate) struct Used<'a> {
+    pub(crate) number: u32,
+    pub(crate) start: usize,
+    pub(crate) bytes: &'a [u8],
+    ghost near: { start + length bytes.now ≤ 65536 },
 }
 
-// The next line that is used, and the spot behind it.
-pub(crate) fn next_used(text: &[u8], from: Spot) -> Option<(Used<'_>, Spot)>
-    requires { Within text.now from }
-    ensures { NextUsed text.now from result }
-{
-    let mut spot = from;
-    loop {
-        let place = spot.place;
-        let Some((bytes, behind)) = next_line(&text[place..]) else {
-            return None;
-        };
-        let line = Used {
-            number: spot.number,
-            start: place,
-            bytes,
-        };
-        spot = spot_behind(text, line.number, behind.len());
-        if !is_skipped(bytes) {
-            return Some((line, spot));
-        }
-    }
+// What is left of a text, from a line's beginning on: its bytes, where they begin in the text, and the line's number.
+#[derive(Drop)]
+pub(crate) struct UsedLines<'a> {
+    rest: &'a [u8],
+    place: usize,
+    number: u32,
+    ghost near: { place + length rest.now ≤ 65536 },
+    ghost counted: { number ≤ place + 1 },
 }

@@ -1,39 +1,50 @@
 // A whole text.
-ghost use Rattle.std.specs.Prelude.{◌≡◌, ◌≤◌, ◌&&◌, List, length, Ok, ◌==◌};
+ghost use Rattle.std.specs.Prelude.{◌≡◌, ◌≤◌, List, ◌++◌, map, length, drop, Ok};
 ghost use Rattle.std.specs.List.{AllByRecursion};
 ghost use Rattle.reader.specs.Bodies.{TextRead};
-ghost use Rattle.reader.specs.Found.{Named};
-ghost use Rattle.reader.specs.Text.{Block, said, in_room, answer_of, records_after};
+ghost use Rattle.reader.specs.Found.{block_of, Named};
+ghost use Rattle.reader.specs.Text.{Block, said, in_room, entry_of, answer_of, records_after};
 
+use crate::blocks::{Blocks, Found};
 use crate::body::read_body;
-use crate::heads::past_counts;
-use crate::spots::{Counts, Tally};
+use crate::counts::Counts;
+use crate::heads::take_counts;
+use crate::lines::UsedLines;
 use names::entries::Entry;
 use rules::blocks::MOST_BLOCKS;
 use rules::refusals::Refusal;
 
-// The most bytes that a text has.
-const LONGEST_TEXT: usize = 65536;
-
-// Whether the counts are those of the lines; no line is soft.
-fn agree(counts: Counts, tally: Tally) -> bool
-    ensures { result ≡ (counts.soft == 0 && (counts.hard == tally.blocks && counts.terminals == tally.terminals)) }
+// The blocks of a text, in line order.
+fn read_text<'a, 'b>(
+    text: &'a [u8],
+    memory: &'b mut [Found<'a>; MOST_BLOCKS],
+) -> Result<Blocks<'a, 'b>, Refusal>
+    ensures { TextRead text.now result }
 {
-    counts.soft == 0 && counts.hard as usize == tally.blocks && counts.terminals == tally.terminals
-}
-
-// The entries of a text's blocks, in line order, and how many they are.
-fn read_text(text: &[u8], found: &mut [Entry]) -> Result<usize, Refusal>
-    requires few { length text.now ≤ 65536 }
-    requires room { 512 ≤ length found.old }
-    ensures { TextRead text.now result found.new }
-{
-    let (counts, spot) = past_counts(text)?;
-    let tally = read_body(text, spot, found)?;
-    if agree(counts, tally) {
-        Ok(tally.blocks)
+    let mut lines = UsedLines::of(text)?;
+    let counts = take_counts(&mut lines)?;
+    let mut blocks = Blocks::over(memory);
+    let terminals = read_body(lines, &mut blocks)?;
+    let right = Counts {
+        soft: 0,
+        hard: blocks.as_slice().len() as u32,
+        terminals,
+    };
+    if counts == right {
+        Ok(blocks)
     } else {
         Err(Refusal::WrongCount)
+    }
+}
+
+// Fills the first records with those of the blocks. They are written by number, since what `iter_mut` lends beside another
+// iterator has no value known at the end.
+fn fill(records: &mut [Entry], found: &[Found<'_>])
+    requires { length found.now ≤ length records.old }
+    ensures { records.new ≡ map entry_of (map block_of found.now) ++ drop (length found.now) records.old }
+{
+    for (i, block) in found.iter().enumerate() {
+        records[i] = block.entry();
     }
 }
 
@@ -43,20 +54,12 @@ pub fn read_blocks(text: &[u8], records: &mut [Entry]) -> Result<usize, Refusal>
     ensures records { records.new ≡ records_after (in_room (length records.old) (said text.now)) records.old }
     ensures names { (blocks : List Block) → said text.now ≡ Ok blocks → AllByRecursion (Named text.now) blocks }
 {
-    if text.len() > LONGEST_TEXT {
-        return Err(Refusal::TextTooLong);
-    }
-    let mut found = [Entry {
-        start: 0,
-        len: 0,
-        width: 0,
-        height: 0,
-    }; MOST_BLOCKS];
-    let count = read_text(text, &mut found)?;
-    if records.len() < count {
+    let mut memory = [Found::none(text); MOST_BLOCKS];
+    let blocks = read_text(text, &mut memory)?;
+    let found = blocks.as_slice();
+    if records.len() < found.len() {
         return Err(Refusal::MemoryTooShort);
     }
-    let filled = &mut records[0..count];
-    filled.copy_from_slice(&found[0..count]);
-    Ok(count)
+    fill(records, found);
+    Ok(found.len())
 }

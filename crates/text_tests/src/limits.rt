@@ -2,6 +2,7 @@
 use crate::reading::{check_refusal, text_of};
 use names::entries::Entry;
 use reader::read_blocks;
+use rules::blocks::Size;
 use std::alloc::{AllocError, Global};
 use std::test::Fail;
 
@@ -26,8 +27,10 @@ fn padded(mut text: String, length: usize) -> Result<String, AllocError> {
 const BEFORE: Entry = Entry {
     start: 0,
     len: 0,
-    width: 9,
-    height: 9,
+    size: Size {
+        width: 9,
+        height: 9,
+    },
 };
 
 #[test]
@@ -41,8 +44,10 @@ fn as_many_blocks_as_there_may_be(rt: HostRuntime) -> Result<(), Fail> {
         Entry {
             start: 22467,
             len: 4,
-            width: 1,
-            height: 1,
+            size: Size {
+                width: 1,
+                height: 1,
+            },
         }
     );
     assert_eq!(rt; records[512], BEFORE);

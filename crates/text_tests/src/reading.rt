@@ -1,6 +1,7 @@
 // Texts read, and the answer held to what is expected.
 use names::entries::Entry;
 use reader::read_blocks;
+use rules::blocks::Size;
 use std::alloc::{AllocError, Global};
 use std::process::Abort;
 use std::test::Fail;
@@ -9,8 +10,7 @@ pub fn entry(start: u32, len: u32, width: u32, height: u32) -> Entry {
     Entry {
         start,
         len,
-        width,
-        height,
+        size: Size { width, height },
     }
 }
 
@@ -18,8 +18,10 @@ pub fn entry(start: u32, len: u32, width: u32, height: u32) -> Entry {
 const BEFORE: Entry = Entry {
     start: 7,
     len: 7,
-    width: 7,
-    height: 7,
+    size: Size {
+        width: 7,
+        height: 7,
+    },
 };
 
 // The text is refused with this number and place, and alters no record.

@@ -1,6 +1,7 @@
 pub mod Adding
+pub mod Finding
+pub mod Progress
 pub mod Spans
 pub mod Answering
-pub mod Progress
 pub mod Solid
 pub mod Reading

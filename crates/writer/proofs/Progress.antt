@@ -1,77 +1,72 @@
 -- The .pl text, one line more at each turn.
-use Rattle.std.proofs.Common.{◌≡◌, ℕ, ◌+◌, ◌-◌, ◌<◌, ◌≤◌, List, [], ◌++◌, length, get_or, take, drop, sym, refl, ap, ◌∙◌, append_assoc, arith, length-append, take-append-drop}
-use Rattle.std.proofs.lemmas.List.{drop_more, drop_all, length-take-le, append-nil}
+use Rattle.std.proofs.Common.{◌≡◌, ℕ, ◌+◌, ◌≤◌, true, List, [], ◌∷◌, ◌++◌, length, is_some, sym, refl, ap, ◌∙◌, subst, append_assoc, arith, length-append}
+use Rattle.std.specs.List.{AllByRecursion}
+use Rattle.std.proofs.lemmas.List.{append-nil}
 use Rattle.rules.specs.declared.placements.Placement.{Placement}
 use Rattle.names.specs.declared.entries.Entry.{Entry}
-use Rattle.writer.specs.Bytes.{Wrote, Added}
+use Rattle.names.specs.Entries.{name_of}
+use Rattle.writer.specs.declared.pen.Pen.{Pen}
+use Rattle.writer.specs.Bytes.{ahead, loan, Added}
 use Rattle.writer.specs.Texts.{header, line_of, lines_of, pl_text}
-use Rattle.writer.proofs.Adding.{further}
+use Rattle.writer.proofs.Adding.{added_more, length_ahead}
 
--- at bytes are written, and the lines of the blocks from i on are to come
-pub record Sofar (text : List ℕ) (es : List Entry) (ps : List Placement) (before out : List ℕ) (at i : ℕ) : Type 0 where
-  pub within : at ≤ length out
-  pub same : length out ≡ length before
-  pub front : take at out ++ lines_of text (drop i es) (drop i ps) ≡ pl_text text es ps
-  pub behind : drop at out ≡ drop at before
+pub length_pl_text : (text : List ℕ) (es : List Entry) (ps : List Placement) → length (pl_text text es ps) ≡ 13 + length (lines_of text es ps)
+unfolding pl_text
+length_pl_text text es ps = length-append header (lines_of text es ps)
 
--- left bytes of the room are left for the lines of the blocks from i on
-abbrev pub Left : List ℕ → List Entry → List Placement → ℕ → ℕ → ℕ → Type 0
-Left text es ps room left i = room + length (lines_of text (drop i es) (drop i ps)) ≡ left + length (pl_text text es ps)
+-- each of the blocks to come has a name and a place
+pub record ToCome (text : List ℕ) (es : List Entry) (ps : List Placement) : Type 0 where
+  pub lengths : length es ≡ length ps
+  pub named : AllByRecursion (λ e. is_some (name_of text e) ≡ true) es
 
-module _ (text : List ℕ) (es : List Entry) (ps : List Placement) where
-  pub length_pl_text : length (pl_text text es ps) ≡ 13 + length (lines_of text es ps)
-  unfolding pl_text
-  length_pl_text = length-append header (lines_of text es ps)
+-- left bytes of the room are left for their lines
+pub record Left (text : List ℕ) (room left whole : ℕ) (es : List Entry) (ps : List Placement) : Type 0 where
+  pub to_come : ToCome text es ps
+  pub fits : room + length (lines_of text es ps) ≡ left + whole
 
-  module _ (i : ℕ) (e : Entry) (p : Placement) (in_entries : i < length es) (in_places : i < length ps) where
-    lines_more : lines_of text (drop i es) (drop i ps) ≡ line_of text (get_or es i e) (get_or ps i p) ++ lines_of text (drop (i + 1) es) (drop (i + 1) ps)
-    unfolding lines_of
-    lines_more = λ j. lines_of text (drop_more es i e in_entries j) (drop_more ps i p in_places j)
+pub left_begun : (text : List ℕ) (room left : ℕ) (es es2 : List Entry) (ps ps2 : List Placement) → ToCome text es ps → left + 13 ≡ room → es2 ≡ es → ps2 ≡ ps → Left text room left (length (pl_text text es ps)) es2 ps2
+left_begun text room left es es2 ps ps2 h l e p =
+    subst (λ x. Left text room left (length (pl_text text es ps)) x ps2) (sym e)
+    (subst (Left text room left (length (pl_text text es ps)) es) (sym p) (record { to_come = h; fits = omega (arith, length_pl_text text es ps) }))
 
-    length_more : length (lines_of text (drop i es) (drop i ps)) ≡ length (line_of text (get_or es i e) (get_or ps i p)) + length (lines_of text (drop (i + 1) es) (drop (i + 1) ps))
-    length_more = ap length lines_more ∙ length-append (line_of text (get_or es i e) (get_or ps i p)) _
+-- from p on q has written all but their lines
+pub record Coming (p q : Pen) (text whole : List ℕ) (es : List Entry) (ps : List Placement) : Type 0 where
+  pub to_come : ToCome text es ps
+  pub same : loan q ≡ loan p
+  pub done : List ℕ
+  pub added : Added p done q
+  pub goes_on : done ++ lines_of text es ps ≡ whole
 
-    pub line_too_long : (room left n : ℕ) → Left text es ps room left i → n ≡ length (line_of text (get_or es i e) (get_or ps i p)) → left < n → room < length (pl_text text es ps)
-    line_too_long room left n inv is over = omega (arith, inv, length_more)
+pub begun : (p q : Pen) (text : List ℕ) (es es2 : List Entry) (ps ps2 : List Placement) → ToCome text es ps → loan q ≡ loan p → Added p header q → es2 ≡ es → ps2 ≡ ps → Coming p q text (pl_text text es ps) es2 ps2
+unfolding pl_text
+begun p q text es es2 ps ps2 h l a e f =
+    subst (λ x. Coming p q text (pl_text text es ps) x ps2) (sym e)
+    (subst (Coming p q text (pl_text text es ps) es) (sym f) (record { to_come = h; same = l; done = header; added = a; goes_on = refl }))
 
-    pub line_fits : (room left n : ℕ) → Left text es ps room left i → n ≡ length (line_of text (get_or es i e) (get_or ps i p)) → n ≤ left → Left text es ps room (left - n) (i + 1)
-    line_fits room left n inv is under = omega (arith, inv, length_more)
+module _ (p q : Pen) (text whole : List ℕ) (es0 es : List Entry) (ps0 ps : List Placement) (e : Entry) (b : Placement) (c : Coming p q text whole es0 ps0) (is : es0 ≡ e ∷ es) (at : ps0 ≡ b ∷ ps) where
+  next_line : c.done ++ (line_of text e b ++ lines_of text es ps) ≡ whole
+  unfolding lines_of
+  next_line = sym (λ i. c.done ++ lines_of text (is i) (at i)) ∙ c.goes_on
 
-    module _ (before out : List ℕ) (at : ℕ) (s : Sofar text es ps before out at i) (room : length (pl_text text es ps) ≤ length before) where
-      pub line_has_room : at + length (line_of text (get_or es i e) (get_or ps i p)) ≤ length out
-      line_has_room = omega (arith, s.within, s.same, simp length-append at (ap length s.front), length-take-le at out s.within, length_more)
+  pub line_has_room : length whole ≤ length (ahead p) → length (line_of text e b) ≤ length (ahead q)
+  line_has_room h =
+      omega (arith, ap length next_line, length-append c.done (line_of text e b ++ lines_of text es ps), length-append (line_of text e b) (lines_of text es ps), length_ahead c.added)
 
-      pub one_more : (after : List ℕ) (n : ℕ) → length after ≡ length out → Added out after at n (line_of text (get_or es i e) (get_or ps i p)) → Sofar text es ps before after n (i + 1)
-      one_more after n long a = record {
-        within = omega (arith, line_has_room, a.place);
-        same = long ∙ s.same;
-        front = ap (λ l. l ++ lines_of text (drop (i + 1) es) (drop (i + 1) ps)) a.front ∙ append_assoc (take at out) _ _ ∙ ap (λ l. take at out ++ l) (sym lines_more) ∙ s.front;
-        behind = a.behind ∙ further out before at n (omega (arith, a.place)) s.behind;
+  pub one_more : (r : Pen) → loan r ≡ loan q → Added q (line_of text e b) r → Coming p r text whole es ps
+  one_more r l a =
+      let h = subst (AllByRecursion (λ e. is_some (name_of text e) ≡ true)) is c.to_come.named in
+      record {
+        to_come = record { lengths = omega (arith, c.to_come.lengths, ap length is, ap length at); named = h.1 };
+        same = l ∙ c.same;
+        done = c.done ++ line_of text e b;
+        added = added_more c.added a;
+        goes_on = append_assoc c.done (line_of text e b) (lines_of text es ps) ∙ next_line;
       }
 
-  lines_end : (i : ℕ) → length es ≤ i → lines_of text (drop i es) (drop i ps) ≡ []
-  unfolding lines_of
-  lines_end i h = ap (λ l. lines_of text l (drop i ps)) (drop_all i es h)
+  pub next_named : is_some (name_of text e) ≡ true
+  next_named = let h = subst (AllByRecursion (λ e. is_some (name_of text e) ≡ true)) is c.to_come.named in h.0
 
-  pub all_fit : (room left i : ℕ) → length es ≤ i → Left text es ps room left i → length (pl_text text es ps) ≤ room
-  all_fit room left i h inv = omega (arith, inv, ap length (lines_end i h))
-
-  pub all_written : (before out : List ℕ) (at i : ℕ) → Sofar text es ps before out at i → length es ≤ i → (at ≡ length (pl_text text es ps)) × Wrote before out (pl_text text es ps)
-  all_written before out at i s h =
-      let all : take at out ≡ pl_text text es ps = sym (append-nil _) ∙ ap (λ l. take at out ++ l) (sym (lines_end i h)) ∙ s.front in
-      let long : at ≡ length (pl_text text es ps) = sym (length-take-le at out s.within) ∙ ap length all in
-      (long, sym (take-append-drop at out) ∙ (λ j. all j ++ s.behind j) ∙ ap (λ m. pl_text text es ps ++ drop m before) long)
-
-  -- the room behind the header
-  pub room_begun : (room left : ℕ) → left + 13 ≡ room → Left text es ps room left 0
-  room_begun room left h = omega (arith, length_pl_text)
-
-  -- the header is written
-  pub begun : (before out : List ℕ) (at : ℕ) → length out ≡ length before → at ≡ 13 → 13 ≤ length before → Wrote before out header → Sofar text es ps out out at 0
-  unfolding pl_text
-  begun before out at long e f w = record { within = omega arith; same = refl; front = λ j. take (e j) (w j) ++ lines_of text es ps; behind = refl }
-
-  -- what lies behind the whole text lay behind its header too
-  pub past_header : (before mid out : List ℕ) → Wrote before mid header → Wrote mid out (pl_text text es ps) → Wrote before out (pl_text text es ps)
-  past_header before mid out w v =
-      v ∙ ap (λ l. pl_text text es ps ++ l) (further mid before 13 (length (pl_text text es ps)) (omega (arith, length_pl_text)) (ap (drop 13) w))
+pub ended : (p q : Pen) (text whole : List ℕ) (es : List Entry) (ps : List Placement) → Coming p q text whole es ps → es ≡ [] → Added p whole q
+unfolding lines_of
+ended p q text whole es ps c e =
+    subst (λ t. Added p t q) (sym (append-nil c.done) ∙ sym (ap (λ l. c.done ++ lines_of text l ps) e) ∙ c.goes_on) c.added

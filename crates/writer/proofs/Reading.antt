@@ -1,19 +1,20 @@
 -- What is written is read back.
-use Rattle.std.proofs.Common.{◌≡◌, ℕ, suc, ◌<◌, true, false, eqb, leb, List, [], ◌∷◌, ◌++◌, length, take, drop, Some, None, Ok, Err, decimal, Option, Result, sym, refl, ap, ◌∙◌, inl, inr, append_assoc, arith}
+use Rattle.std.proofs.Common.{◌≡◌, ℕ, ◌<◌, true, eqb, leb, List, [], ◌∷◌, ◌++◌, length, take, drop, is_some, Some, None, Ok, Err, decimal, Option, Result, sym, refl, ap, ◌∙◌, inl, inr, append_assoc, arith}
+use Rattle.std.specs.List.{AllByRecursion}
 use Rattle.std.proofs.lemmas.Fmt.{decimal_nonempty}
 use Rattle.std.proofs.lemmas.List.{take_at}
-use Rattle.std.proofs.lemmas.Bool.{cond-true, cond-false, cases_Bool, ne_eqb, leb-true, and_parts, not-false}
+use Rattle.std.proofs.lemmas.Bool.{cond-true, cond-false, cases_Bool, ne_eqb, leb-true, and_parts}
 use Rattle.rules.specs.declared.placements.Placement.{Placement}
 use Rattle.rules.specs.declared.refusals.Refusal.{Refusal}
 use Rattle.rules.specs.Refusals.{answered}
 use Rattle.words.specs.Words.{onto, words}
 use Rattle.names.specs.declared.entries.Entry.{Entry}
 use Rattle.names.specs.Names.{is_name}
-use Rattle.names.specs.Entries.{marked}
+use Rattle.names.specs.Entries.{marked, name_of}
 use Rattle.names.proofs.Decimals.{decimal_read_back}
 use Rattle.names.proofs.Marked.{marks_name}
 use Rattle.writer.specs.Texts.{line, lines_of, pl_text}
-use Rattle.writer.specs.Answers.{Writes, left_by, unnamed, writer_refusal}
+use Rattle.writer.specs.Answers.{Writes, left_by, writer_refusal}
 use Rattle.writer.specs.Readings.{Told, lines, told_at, told_by, in_front, told_by_lines, read_pl, placed_blocks, Short, ReadBack}
 use Rattle.writer.proofs.Answering.{accepted}
 use Rattle.writer.proofs.Solid.{AtLeast, at_least_append, at_least_weaker, solid_decimal, solid_name, words_first, words_last}
@@ -61,19 +62,19 @@ module _ (name : List ℕ) (x y : ℕ) (named : is_name name ≡ true) (small_x 
       ap (λ l. told_by_lines (lines l)) cut ∙ ap told_by_lines (lines_cut (body name x y) rest level) ∙ (λ j. in_front (tells j) (e j))
 
 -- the lines of the blocks, read back
-lines_back : (text : List ℕ) (es : List Entry) (ps : List Placement) → ((k : ℕ) → k < length es → unnamed text es k ≡ false) → Short ps → told_by_lines (lines (lines_of text es ps)) ≡ Some (placed_blocks text es ps)
+lines_back : (text : List ℕ) (es : List Entry) (ps : List Placement) → AllByRecursion (λ e. is_some (name_of text e) ≡ true) es → Short ps → told_by_lines (lines (lines_of text es ps)) ≡ Some (placed_blocks text es ps)
 unfolding lines_of placed_blocks told_by_lines lines
 lines_back text [] ps named short = refl
 lines_back text (e ∷ es) [] named short = refl
 lines_back text (e ∷ es) (p ∷ ps) named short =
-    let rest = lines_back text es ps (λ k h. named (suc k) (omega arith)) short.2 in
+    let rest = lines_back text es ps named.1 short.2 in
     elim (cases_Bool (eqb p.width 0)) [
       | inl absent ↦
           ap (λ l. told_by_lines (lines (l ++ lines_of text es ps))) (absent_line text e p absent) ∙ rest ∙
           ap Some (sym (cond-true (eqb p.width 0) _ _ absent))
       | inr present ↦
           ap (λ l. told_by_lines (lines (l ++ lines_of text es ps))) (present_line text e p present) ∙
-          one_line (marked text e) p.x p.y (marks_name text e (not-false _ (named 0 (omega arith)))) short.0 short.1 (lines_of text es ps) _ rest ∙
+          one_line (marked text e) p.x p.y (marks_name text e named.0) short.0 short.1 (lines_of text es ps) _ rest ∙
           ap Some (sym (cond-false (eqb p.width 0) _ _ present))
     ]
 

@@ -45,7 +45,6 @@ solid_byte b h = elim (or_cases _ _ h) [
 ]
 
 pub solid_name : (bs : List ℕ) → all_name_bytes bs ≡ true → AtLeast 48 bs
-unfolding all_name_bytes
 solid_name [] h = tt
 solid_name (b ∷ bs) h = let p = and_parts (is_name_byte b) (all_name_bytes bs) h in (solid_byte b p.0, solid_name bs p.1)
 

@@ -1,5 +1,5 @@
 -- What the writers answer, and what they leave in the caller's bytes.
-use Rattle.std.specs.Prelude.{◌≡◌, ℕ, min, Bool, not, List, ◌++◌, length, drop, is_some, Some, None, Option, Result, ◌==◌, nat_lt, slice_index_or}
+use Rattle.std.specs.Prelude.{◌≡◌, ℕ, ◌+◌, ◌<◌, min, Bool, not, List, ◌++◌, length, drop, is_some, Some, None, Option, Result, ◌==◌, nat_lt, slice_index_or}
 use Rattle.rules.specs.declared.placements.Placement.{Placement}
 use Rattle.rules.specs.declared.refusals.Refusal.{Refusal}
 use Rattle.rules.specs.declared.refusals.Refusal.TheVariants.{LengthsDiffer, MemoryTooShort, TextTooLong, NoName}
@@ -25,7 +25,7 @@ too_short text room = when (nat_lt room (length text)) MemoryTooShort None
 
 -- the entry of block i marks no name in the text
 abbrev pub unnamed : List ℕ → List Entry → ℕ → Bool
-unnamed text es i = not (is_some (name_of text (slice_index_or es i (record { start = 0; len = 0; width = 0; height = 0 }))))
+unnamed text es i = not (is_some (name_of text (slice_index_or es i (record { start = 0; len = 0; size = record { width = 0; height = 0 } }))))
 
 -- 20, with the first block that has no name; a number over 4,294,967,295 is told as that
 abbrev pub no_name : ℕ → Refusal
@@ -38,3 +38,8 @@ writer_refusal text es ps room =
     (when (not (length es == length ps)) LengthsDiffer
     (when_found (first (unnamed text es) 0 (length es)) no_name
     (too_short (pl_text text es ps) room)))
+
+-- how much room is left behind the text, none where it does not fit
+abbrev pub RoomLeft : List ℕ → ℕ → Option ℕ → Type 0
+RoomLeft text room (Some left) = room ≡ left + length text
+RoomLeft text room None = room < length text

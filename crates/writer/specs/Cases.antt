@@ -9,7 +9,7 @@ use Rattle.writer.specs.Readings.{read_pl}
 
 -- a name of so many bytes from so many on
 abbrev name_at : ℕ → ℕ → Entry
-name_at start len = record { start = start; len = len; width = 1; height = 1 }
+name_at start len = record { start = start; len = len; size = record { width = 1; height = 1 } }
 
 -- a block at x and y, of width 4 and height 3
 abbrev block_at : ℕ → ℕ → Placement

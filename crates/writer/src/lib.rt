@@ -1,12 +1,12 @@
 #![tactic(auto)]
 // The .pl text of placed blocks, and the line of a refusal, written into the caller's bytes.
 mod checks;
-mod digits;
 mod lines;
-mod pieces;
+mod pen;
 mod placements;
 mod refusals;
 mod samples;
+mod sheet;
 
 pub use placements::write_placements;
 pub use refusals::write_refusal;

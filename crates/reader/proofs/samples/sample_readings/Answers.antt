@@ -1,13 +1,12 @@
 use Rattle.std.proofs.Common.{refl}
 use Rattle.words.specs.Numbers.{spelt_after}
-use Rattle.names.specs.Names.{all_name_bytes}
 use Rattle.grammar.specs.Words.{words, indent}
 use Rattle.grammar.specs.Lines.{line_of, lines_from, used}
-use Rattle.reader.specs.Text.{known, body}
+use Rattle.reader.specs.Text.{body}
 use Rattle.reader.proofs.samples.sample_readings.Goals as goal
 
 pub returns : goal.returns
-unfolding spelt_after all_name_bytes words indent line_of lines_from used known body
+unfolding spelt_after words indent line_of lines_from used body
 returns c =
     record {
       two_blocks = refl;

@@ -3,14 +3,13 @@ use Rattle.std.specs.Fmt.{digits}
 use Rattle.rules.specs.Loads.{first}
 use Rattle.words.specs.Words.{words}
 use Rattle.words.specs.Numbers.{spelt_after}
-use Rattle.names.specs.Names.{all_name_bytes}
 use Rattle.writer.specs.Texts.{line_of, lines_of, pl_text, refusal_line}
 use Rattle.writer.specs.Answers.{writer_refusal}
 use Rattle.writer.specs.Readings.{lines, told_by_lines}
 use Rattle.writer.proofs.samples.sample_writings.Goals as goal
 
 pub returns : goal.returns
-unfolding digits first words spelt_after all_name_bytes line_of lines_of pl_text refusal_line writer_refusal lines told_by_lines
+unfolding digits first words spelt_after line_of lines_of pl_text refusal_line writer_refusal lines told_by_lines
 returns c =
     record {
       no_blocks = refl;
