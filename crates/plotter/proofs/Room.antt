@@ -12,7 +12,7 @@ use Rattle.promises.specs.Packs.{pack_refusal, placements, record_of, with_place
 use Rattle.plan.specs.declared.plans.Plan.{Plan as Held}
 use Rattle.plan.specs.Sound.{plan_of}
 use Rattle.plan.specs.Meaning.{rows, root_of}
-use Rattle.packer.proofs.Bounds.{packed_near}
+use Rattle.geometry.proofs.Bounds.{packed_near}
 use Rattle.packer.proofs.Present.{reads}
 use Rattle.packer.proofs.Refusing.{all_passed}
 use Rattle.plotter.specs.Within.{Within}
