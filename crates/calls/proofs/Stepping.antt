@@ -1,18 +1,14 @@
 -- One call more: what it makes of the plan in hand and of the caller's memory.
 use Rattle.std.proofs.Common.{◌≡◌, ℕ, ◌≢◌, List, [], ◌∷◌, ◌++◌, refl, ap, ◌∙◌}
 use Rattle.rules.specs.declared.edits.Edit.{Edit}
-use Rattle.rules.specs.declared.placements.Placement.{Placement}
 use Rattle.rules.specs.Plans.{Plan}
-use Rattle.rules.specs.Skylines.{Sky}
 use Rattle.rules.specs.Book as book
 use Rattle.theorems.proofs.Books.{state-from-++}
 use Rattle.theorems.proofs.Following.{follows_pack_settled, follows_pack_tried}
-use Rattle.packer.specs.declared.spots.Spot.{Spot}
 use Rattle.calls.specs.declared.call.Call.{Call}
 use Rattle.calls.specs.declared.call.Call.TheVariants.{Load, Test, Begin, Keep, Undo, Pack}
 use Rattle.calls.specs.declared.call.Loading.{Loading}
 use Rattle.calls.specs.Said.{said}
-use Rattle.calls.specs.Runs.{memory, WalkLeft, CallLeaves}
 
 -- a call that the state does not allow leads out of turn
 out_by : (cs : List book.Call) (c : book.Call) (s : book.State) → book.state_after cs ≡ s → book.next s c ≡ book.out_of_turn → book.state_after (cs ++ (c ∷ [])) ≡ book.out_of_turn

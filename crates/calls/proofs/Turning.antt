@@ -1,5 +1,5 @@
 -- The first call out of turn, found call by call, and what it says of the state behind the list.
-use Rattle.std.proofs.Common.{◌≡◌, ℕ, ◌+◌, ◌<◌, ◌≤◌, List, [], ◌∷◌, map, length, get_or, drop, Some, None, Ok, Err, Option, sym, refl, ap, ◌∙◌, arith}
+use Rattle.std.proofs.Common.{◌≡◌, ℕ, ◌+◌, ◌<◌, ◌≤◌, List, [], ◌∷◌, map, length, get_or, drop, Some, None, Ok, Err, Option, sym, refl, ap, ◌∙◌}
 use Rattle.std.proofs.lemmas.List.{at_drop_more, at_drop_all}
 use Rattle.std.specs.Option.{ok_or}
 use Rattle.rules.specs.Book.{Call, State, settled, tried, out_of_turn, next, state_from}
@@ -11,10 +11,10 @@ use Rattle.calls.specs.Turns.{out_at, first_out}
 use Rattle.calls.specs.Said.{as_state}
 
 pub settled_open : settled ≡ out_of_turn → ⊥
-settled_open e = let z : ◌≡◌ {A = ℕ} 0 1 = cc in omega arith
+settled_open e = cc
 
 pub tried_open : tried ≡ out_of_turn → ⊥
-tried_open e = let z : ◌≡◌ {A = ℕ} 0 1 = cc in omega arith
+tried_open e = cc
 
 -- a call in turn is not the one looked for
 passed : (t : Turn) (i : ℕ) (after : Option ℕ) → out_at (as_state (Some t)) i after ≡ after
@@ -39,7 +39,7 @@ was_some (Some u) e t h = cc
 
 pub was_none : (o : Option Turn) (e s : Stop) → Err s ≡ ok_or o e → (o ≡ None) × (s ≡ e)
 was_none None e s h = (refl, cc)
-was_none (Some u) e s h = absurd cc
+was_none (Some u) e s h = cc
 
 pub first_out_none : {A : Type 0} (said : A → Call) (calls : List A) (i : ℕ) (s : State) → length calls ≤ i → None ≡ first_out s i (map said (drop i calls))
 first_out_none said calls i s h = sym (at_drop_all (λ l. first_out s i (map said l)) calls i h)
@@ -48,7 +48,7 @@ first_out_none said calls i s h = sym (at_drop_all (λ l. first_out s i (map sai
 none_at : (t : State) (i : ℕ) (after : Option ℕ) → out_at t i after ≡ None → (t ≡ out_of_turn → ⊥) × (after ≡ None)
 none_at settled i after h = (settled_open, h)
 none_at tried i after h = (tried_open, h)
-none_at out_of_turn i after h = let z : ◌≡◌ {A = ℕ} 0 1 = cc in absurd (omega arith)
+none_at out_of_turn i after h = cc
 
 -- nothing found: the list is in turn
 pub in_turn : (s : State) (i : ℕ) (cs : List Call) → (s ≡ out_of_turn → ⊥) → first_out s i cs ≡ None → state_from s cs ≡ out_of_turn → ⊥
@@ -63,5 +63,5 @@ some_at out_of_turn i k cs after later h = out_of_turn_stays cs
 
 -- a call found: the list is out of turn
 pub not_in_turn : (s : State) (i : ℕ) (cs : List Call) (k : ℕ) → first_out s i cs ≡ Some k → state_from s cs ≡ out_of_turn
-not_in_turn s i [] k h = let z : ◌≡◌ {A = ℕ} 0 1 = cc in absurd (omega arith)
+not_in_turn s i [] k h = cc
 not_in_turn s i (c ∷ cs) k h = some_at (next s c) i k cs _ (not_in_turn (next s c) (i + 1) cs k) h

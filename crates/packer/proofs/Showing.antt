@@ -1,5 +1,5 @@
 -- From what a packing leaves to what it shows.
-use Rattle.std.proofs.Common.{◌≡◌, ℕ, List, take, drop, Some, None, Ok, Option, Result, ap, ◌∙◌, arith}
+use Rattle.std.proofs.Common.{◌≡◌, List, take, drop, Some, None, Ok, Option, Result, ap, ◌∙◌}
 use Rattle.std.proofs.lemmas.List.{take_at}
 use Rattle.std.proofs.lemmas.List.FromFn.{length-map-range_with_len}
 use Rattle.rules.specs.declared.placements.Placement.{Placement}
@@ -19,7 +19,7 @@ use Rattle.packer.specs.Shows.{PackShows}
 -- what an accepted call answered
 accepted : (o : Option Refusal) (v x : Extent) (r : Result Extent Refusal) → r ≡ answered o v → r ≡ Ok x → x ≡ v
 accepted None v x r e f = cc
-accepted (Some w) v x r e f = let z : ◌≡◌ {A = ℕ} 0 1 = cc in absurd (omega arith)
+accepted (Some w) v x r e f = cc
 
 front : (p : Plan) (before : List Placement) → take (block_count p) (with_placements p before) ≡ placements p
 front p before = take_at (placements p) (drop (block_count p) before) (block_count p) (length-map-range_with_len (record_of (packed p)) 0 (block_count p))

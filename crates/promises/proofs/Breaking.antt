@@ -23,7 +23,7 @@ module _ (cs : List Call) (t : Sky) where
         let lt : 0 < blocks_of cs = omega arith in
         let out = p.unplaced 0 lt (λ placed. omega arith) in
         let none : last_of 0 (in_force (book cs)) ≡ None = ap (last_of 0) force in
-        let z : ◌≡◌ {A = ℕ} 0 1 = cc in omega arith;
+        cc;
     taken_out = λ n force w h p.
         let lt : 0 < blocks_of cs = omega arith in
         let out : last_of 0 (in_force (book cs)) ≡ Some (TakeOut 0) = ap (last_of 0) force in

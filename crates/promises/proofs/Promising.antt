@@ -79,11 +79,11 @@ promise_of cs p width high rs s t ok e k u =
 
 pub promise_of_settled : PromiseOfSettled
 promise_of_settled cs p kept width high rs s t h =
-    promise_of cs p width high rs s t (λ e. let z : ◌≡◌ {A = ℕ} 0 1 = cc h.state in omega arith) h.in_book
+    promise_of cs p width high rs s t (λ e. cc h.state) h.in_book
 
 pub promise_of_tried : PromiseOfTried
 promise_of_tried cs p before kept_next kept width high rs s t h =
-    promise_of cs p width high rs s t (λ e. let z : ◌≡◌ {A = ℕ} 0 1 = cc h.state in omega arith) h.in_book
+    promise_of cs p width high rs s t (λ e. cc h.state) h.in_book
 
 pub pruned_promise : PrunedPromise
 pruned_promise cs ok =

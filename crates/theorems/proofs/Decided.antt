@@ -1,5 +1,5 @@
 -- Presence after edits that pass one after the other.
-use Rattle.std.proofs.Common.{◌≡◌, ℕ, Bool, true, false, cond, eqb, ltb, ◌⊎◌, List, [], ◌∷◌, Some, None, Option, sym, refl, ap, ◌∙◌, subst, inl, inr, arith}
+use Rattle.std.proofs.Common.{◌≡◌, ℕ, Bool, true, false, cond, eqb, ltb, ◌⊎◌, List, [], ◌∷◌, Some, None, Option, sym, refl, ap, ◌∙◌, subst, inl, inr}
 use Rattle.std.specs.Option.{option_or}
 use Rattle.std.proofs.lemmas.Bool.{true≢false, eqb-true}
 use Rattle.rules.specs.declared.edits.Edit.{Edit}
@@ -65,10 +65,10 @@ from_either (Some d) b e h = inl h
 
 from_decider : (t : Bool) (d e : Edit) → cond t (Some d) None ≡ Some e → (t ≡ true) × (d ≡ e)
 from_decider true d e h = (refl, cc)
-from_decider false d e h = let z : ◌≡◌ {A = ℕ} 0 1 = cc in absurd (omega arith)
+from_decider false d e h = cc
 
 last_decides : (k : ℕ) (es : List Edit) (e : Edit) → last_of k es ≡ Some e → decides k e ≡ true
-last_decides k [] e h = let z : ◌≡◌ {A = ℕ} 0 1 = cc in absurd (omega arith)
+last_decides k [] e h = cc
 last_decides k (d ∷ es) e h = elim (from_either (last_of k es) (decider k d) e h) [
   | inl a ↦ last_decides k es e a
   | inr b ↦ let f = from_decider (decides k d) d e b in subst (λ x. decides k x ≡ true) f.1 f.0

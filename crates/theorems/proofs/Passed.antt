@@ -111,7 +111,7 @@ taken i k t h = elim (cases_eq i k) [
 put_count : (i j k : ℕ) (s : Side) (t : Tree) → (t ≡ empty) ⊎ (count j t ≡ 1) → count k (put_in i j s t) ≡ count k t + count k (node i empty empty)
 unfolding put_in
 put_count i j k s empty h = omega (arith, no_count k)
-put_count i j k s (node m l r) (inl e) = let z : ◌≡◌ {A = ℕ} 0 1 = cc in absurd (omega arith)
+put_count i j k s (node m l r) (inl e) = cc
 put_count i j k s (node m l r) (inr e) = hang_count s i j k (node m l r) e
 
 put : (i j k : ℕ) (s : Side) (t : Tree) → count i t ≡ 0 → (t ≡ empty) ⊎ (count j t ≡ 1) → count k (put_in i j s t) ≡ cond (eqb i k) 1 (count k t)
