@@ -39,34 +39,20 @@ const SIZES: [Size; 5] = [
 const CHILDREN: [Children; 5] = [
     Children { left: 1, right: 2 },
     Children { left: 3, right: 4 },
-    Children {
-        left: NONE,
-        right: NONE,
-    },
-    Children {
-        left: NONE,
-        right: NONE,
-    },
-    Children {
-        left: NONE,
-        right: NONE,
-    },
+    Children::NONE,
+    Children::NONE,
+    Children::NONE,
 ];
 
 // Packs the plan, and prints a line for each block.
 fn show<S: Skyline>(rt: &HostRuntime, plan: &Plan, skyline: &mut S) -> io::Result<()> {
-    let mut walk = [Spot { block: 0, left: 0 }; 5];
-    let mut places = [Placement {
-        x: 0,
-        y: 0,
-        width: 0,
-        height: 0,
-    }; 5];
+    let mut walk = [Spot::default(); 5];
+    let mut places = [Placement::default(); 5];
     match pack(plan, skyline, &mut walk, &mut places) {
         Ok(extent) => println!(rt; "packed {} {}", extent.width, extent.height)?,
         Err(refusal) => return rt.println(refusal),
     }
-    for place in places.iter() {
+    for place in places {
         println!(rt; "{} {} {} {}", place.x, place.y, place.width, place.height)?;
     }
     Ok(())

@@ -1,6 +1,7 @@
 // 512 blocks of the largest size in a row, and one above the other.
 use crate::lists::load;
-use crate::tasks::{Answer, OLD_HEIGHTS, OLD_PLACE, Task, check_over_each, check_over_records};
+use crate::tasks::{OLD_HEIGHTS, OLD_PLACE, Refused, Task, check_over_each, check_over_records};
+use packer::Extent;
 use plan::Settled;
 use rules::blocks::{Children, NONE, Size};
 use rules::placements::Placement;
@@ -53,7 +54,10 @@ fn in_a_row(rt: HostRuntime) -> Result<(), Fail> {
         walk: 512,
         columns: 67_108_864,
         raises: 512,
-        answer: Answer::Packed(67_108_864, 131_072),
+        answer: Ok(Extent {
+            width: 67_108_864,
+            height: 131_072,
+        }),
         used: 512,
         places: &places,
         heights: &[131_072; 9],
@@ -69,7 +73,7 @@ fn in_a_row_too_long(rt: HostRuntime) -> Result<(), Fail> {
         walk: 512,
         columns: 67_108_863,
         raises: 512,
-        answer: Answer::Refused(26, 0),
+        answer: Err(Refused(26, 0)),
         used: 1,
         places: &[OLD_PLACE; 512],
         heights: &OLD_HEIGHTS,
@@ -86,7 +90,10 @@ fn in_a_column(rt: HostRuntime) -> Result<(), Fail> {
         walk: 512,
         columns: 131_072,
         raises: 512,
-        answer: Answer::Packed(131_072, 67_108_864),
+        answer: Ok(Extent {
+            width: 131_072,
+            height: 67_108_864,
+        }),
         used: 512,
         places: &places,
         heights: &[67_108_864; 9],

@@ -34,13 +34,17 @@ const OLD_RUN: Run = Run {
 // The heights of the first columns before a packing, after one raise.
 pub const OLD_HEIGHTS: [u32; 9] = [0, 0, 5, 5, 5, 5, 0, 0, 0];
 
+// A refusal's number and place.
 #[derive(Clone, Copy, PartialEq, Eq, Debug)]
-pub enum Answer {
-    // the width and the height
-    Packed(u32, u32),
-    // a refusal's number and place
-    Refused(u8, u32),
+pub struct Refused(pub u8, pub u32);
+
+impl From<Refusal> for Refused {
+    fn from(refusal: Refusal) -> Refused {
+        Refused(refusal.number(), refusal.place())
+    }
 }
+
+pub type Answer = Result<Extent, Refused>;
 
 // The number of walk records, C and R; then the answer, how many raises are used up afterwards, all records, and the heights of the
 // columns, as far as there are any.
@@ -53,13 +57,6 @@ pub struct Task<'a> {
     pub used: u32,
     pub places: &'a [Placement],
     pub heights: &'a [u32],
-}
-
-fn answer_of(answer: Result<Extent, Refusal>) -> Answer {
-    match answer {
-        Ok(extent) => Answer::Packed(extent.width, extent.height),
-        Err(refusal) => Answer::Refused(refusal.number(), refusal.place()),
-    }
 }
 
 fn check_heights<S: Skyline>(rt: &impl Abort, skyline: &S, heights: &[u32]) {
@@ -106,10 +103,10 @@ fn check_over<S: Skyline>(
     let mut walk = vec![in heap; OLD_SPOT; task.walk]?;
     let mut places = vec![in heap; OLD_PLACE; task.places.len()]?;
     skyline.raise(2, 6, 5)?;
-    let answer = answer_of(pack(plan, skyline, &mut walk, &mut places));
+    let answer = pack(plan, skyline, &mut walk, &mut places).map_err(Refused::from);
     check_left(rt, skyline, task, answer, &places);
     match answer {
-        Answer::Refused(18, _) => check_walk(rt, &walk),
+        Err(Refused(18, _)) => check_walk(rt, &walk),
         _ => Ok(()),
     }
 }

@@ -1,7 +1,8 @@
 // Every tree of up to four blocks with sides 1 and 2, with each numbering of its blocks.
 use crate::grids::{extent, painted};
 use crate::lists::load;
-use crate::tasks::{Answer, Task, check_over_each};
+use crate::tasks::{Task, check_over_each};
+use packer::Extent;
 use plan::Settled;
 use rules::blocks::{Children, NONE, Size};
 use std::alloc::{AllocError, Global};
@@ -61,7 +62,7 @@ fn check_packed(
         walk: 4,
         columns: 12,
         raises: 4,
-        answer: Answer::Packed(width, height),
+        answer: Ok(Extent { width, height }),
         used: n,
         places: &grid.places,
         heights: &heights,

@@ -1,7 +1,8 @@
 // The worked cases, K and K after an edit, in memory that just suffices; and what is refused where one record, column or raise is
 // lacking.
 use crate::lists::load;
-use crate::tasks::{Answer, OLD_HEIGHTS, OLD_PLACE, Task, check_over_each, check_over_records};
+use crate::tasks::{OLD_HEIGHTS, OLD_PLACE, Refused, Task, check_over_each, check_over_records};
+use packer::Extent;
 use plan::{Plan, Settled};
 use rules::blocks::{Children, NONE, Size};
 use rules::edits::Edit::*;
@@ -141,7 +142,7 @@ fn check_case(rt: &impl Abort, heap: Global, plan: &Plan, case: &Case) -> Result
         walk: case.present as usize,
         columns: width,
         raises: case.present as usize,
-        answer: Answer::Packed(width, height),
+        answer: Ok(Extent { width, height }),
         used: case.present,
         places: &places,
         heights: &case.columns,
@@ -175,7 +176,10 @@ fn no_blocks(rt: HostRuntime) -> Result<(), Fail> {
         walk: 0,
         columns: 6,
         raises: 1,
-        answer: Answer::Packed(0, 0),
+        answer: Ok(Extent {
+            width: 0,
+            height: 0,
+        }),
         used: 0,
         places: &[],
         heights: &[0; 6],
@@ -196,7 +200,7 @@ fn check_refused(
         walk,
         columns,
         raises,
-        answer: Answer::Refused(number, 0),
+        answer: Err(Refused(number, 0)),
         used: 1,
         places: &places,
         heights: &OLD_HEIGHTS,

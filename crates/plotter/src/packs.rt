@@ -26,13 +26,8 @@ pub(crate) fn places_of(plan: &Plan) -> [Placement; MOST_BLOCKS]
 {
     let mut runs = [Run::default(); RUNS];
     let mut skyline = Steps::new(&mut runs, COLUMNS);
-    let mut walk = [Spot { block: 0, left: 0 }; MOST_BLOCKS];
-    let mut places = [Placement {
-        x: 0,
-        y: 0,
-        width: 0,
-        height: 0,
-    }; MOST_BLOCKS];
+    let mut walk = [Spot::default(); MOST_BLOCKS];
+    let mut places = [Placement::default(); MOST_BLOCKS];
     let Ok(_) = pack(plan, &mut skyline, &mut walk, &mut places) else {
         unreachable()
     };

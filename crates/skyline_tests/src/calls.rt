@@ -11,51 +11,41 @@ pub enum Call {
     UseUp,
 }
 
+// What a call that is not refused tells.
 #[derive(Clone, Copy, PartialEq, Eq, Debug)]
-pub enum Answer {
+pub enum Told {
     Done,
     Height(u32),
-    // a refusal's number and place
-    Refused(u8, u32),
 }
 
-fn refused(refusal: Refusal) -> Answer {
-    Answer::Refused(refusal.number(), refusal.place())
-}
+// A refusal's number and place.
+#[derive(Clone, Copy, PartialEq, Eq, Debug)]
+pub struct Refused(pub u8, pub u32);
 
-fn height(answer: Result<u32, Refusal>) -> Answer {
-    match answer {
-        Ok(height) => Answer::Height(height),
-        Err(refusal) => refused(refusal),
+impl From<Refusal> for Refused {
+    fn from(refusal: Refusal) -> Refused {
+        Refused(refusal.number(), refusal.place())
     }
 }
 
-fn done(answer: Result<(), Refusal>) -> Answer {
-    match answer {
-        Ok(()) => Answer::Done,
-        Err(refusal) => refused(refusal),
-    }
-}
+pub type Answer = Result<Told, Refused>;
 
-fn use_up<S: Skyline>(skyline: &mut S) -> Answer {
+fn use_up<S: Skyline>(skyline: &mut S) {
     let Ok(height) = skyline.highest(0, 1) else {
-        return Answer::Done;
+        return;
     };
     for _ in 0..skyline.raises_left() {
         let _ = skyline.raise(0, 1, height);
     }
-    Answer::Done
 }
 
 // Makes the call.
 pub fn make<S: Skyline>(skyline: &mut S, call: Call) -> Answer {
     match call {
-        Call::Clear => {
-            skyline.clear();
-            Answer::Done
-        }
-        Call::Highest(a, b) => height(skyline.highest(a, b)),
-        Call::Raise(a, b, h) => done(skyline.raise(a, b, h)),
+        Call::Clear => skyline.clear(),
+        Call::Highest(a, b) => return Ok(Told::Height(skyline.highest(a, b)?)),
+        Call::Raise(a, b, h) => skyline.raise(a, b, h)?,
         Call::UseUp => use_up(skyline),
     }
+    Ok(Told::Done)
 }

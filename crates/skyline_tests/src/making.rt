@@ -1,7 +1,7 @@
 // What a skyline is when it is made: C, R, and every height 0.
-use crate::calls::Answer::*;
 use crate::calls::Call::*;
-use crate::calls::{Answer, Call, make};
+use crate::calls::Told::*;
+use crate::calls::{Answer, Call, Refused, make};
 use crate::kinds::STALE_RUN;
 use columns::Columns;
 use placed::Placed;
@@ -22,16 +22,20 @@ fn check_made<S: Skyline>(rt: &impl Abort, skyline: &mut S, c: u32, r: u32) -> R
         (skyline.columns(), skyline.raises(), skyline.raises_left()),
         (c, r, r)
     );
-    let all = if c == 0 { Refused(11, 0) } else { Height(0) };
+    let all = if c == 0 {
+        Err(Refused(11, 0))
+    } else {
+        Ok(Height(0))
+    };
     let past = c.saturating_add(1);
     let calls = [
         (Highest(0, c), all),
-        (Highest(0, past), Refused(11, 0)),
-        (Highest(c, c), Refused(11, 0)),
-        (Raise(0, past, 0), Refused(11, 0)),
-        (Raise(0, past, 134_217_729), Refused(11, 0)),
-        (Clear, Done),
-        (Raise(c, past, 0), Refused(11, 0)),
+        (Highest(0, past), Err(Refused(11, 0))),
+        (Highest(c, c), Err(Refused(11, 0))),
+        (Raise(0, past, 0), Err(Refused(11, 0))),
+        (Raise(0, past, 134_217_729), Err(Refused(11, 0))),
+        (Clear, Ok(Done)),
+        (Raise(c, past, 0), Err(Refused(11, 0))),
     ];
     check_answers(rt, skyline, &calls);
     Ok(())
@@ -102,16 +106,16 @@ fn steps_made(rt: HostRuntime) -> Result<(), Fail> {
 
 // Calls on a skyline of 67,108,864 columns.
 const AT_THE_LAST_COLUMN: [(Call, Answer); 10] = [
-    (Highest(0, 67_108_864), Height(0)),
-    (Raise(67_108_863, 67_108_864, 5), Done),
-    (Highest(67_108_863, 67_108_864), Height(5)),
-    (Highest(0, 67_108_864), Height(5)),
-    (Highest(0, 67_108_863), Height(0)),
-    (Highest(67_108_863, 67_108_865), Refused(11, 0)),
-    (Raise(67_108_863, 67_108_865, 9), Refused(11, 0)),
-    (Raise(0, 67_108_864, 4), Refused(23, 0)),
-    (Raise(0, 67_108_864, 134_217_728), Done),
-    (Highest(0, 1), Height(134_217_728)),
+    (Highest(0, 67_108_864), Ok(Height(0))),
+    (Raise(67_108_863, 67_108_864, 5), Ok(Done)),
+    (Highest(67_108_863, 67_108_864), Ok(Height(5))),
+    (Highest(0, 67_108_864), Ok(Height(5))),
+    (Highest(0, 67_108_863), Ok(Height(0))),
+    (Highest(67_108_863, 67_108_865), Err(Refused(11, 0))),
+    (Raise(67_108_863, 67_108_865, 9), Err(Refused(11, 0))),
+    (Raise(0, 67_108_864, 4), Err(Refused(23, 0))),
+    (Raise(0, 67_108_864, 134_217_728), Ok(Done)),
+    (Highest(0, 1), Ok(Height(134_217_728))),
 ];
 
 // Placed and steps are told one column more; columns has one number more, which is left alone.

@@ -1,5 +1,5 @@
 // A skyline as a plain array of heights, painted by the test itself: what the rules say, and nothing of the skylines' code.
-use crate::calls::{Answer, Call};
+use crate::calls::{Answer, Call, Refused, Told};
 
 // The number of columns of the skylines in these tests.
 pub const WIDTH: u32 = 24;
@@ -33,45 +33,42 @@ impl Painting {
         self.left = self.left.saturating_sub(1);
     }
 
-    // The number of the refusal of a raise.
-    fn fault(&self, a: u32, b: u32, h: u32) -> Option<u8> {
+    // Refuses a wrong span.
+    fn test(a: u32, b: u32) -> Result<(), Refused> {
         if a >= b || b > WIDTH {
-            Some(11)
-        } else if h > 134_217_728 {
-            Some(12)
-        } else if h < self.largest(a, b) {
-            Some(23)
-        } else if self.left == 0 {
-            Some(24)
-        } else {
-            None
+            return Err(Refused(11, 0));
         }
+        Ok(())
     }
 
-    fn raise(&mut self, a: u32, b: u32, h: u32) -> Answer {
-        match self.fault(a, b, h) {
-            Some(number) => Answer::Refused(number, 0),
-            None => {
-                self.paint(a, b, h);
-                Answer::Done
-            }
+    // Refuses a raise by its number.
+    fn test_raise(&self, a: u32, b: u32, h: u32) -> Result<(), Refused> {
+        Painting::test(a, b)?;
+        if h > 134_217_728 {
+            Err(Refused(12, 0))
+        } else if h < self.largest(a, b) {
+            Err(Refused(23, 0))
+        } else if self.left == 0 {
+            Err(Refused(24, 0))
+        } else {
+            Ok(())
         }
     }
 
     // Makes the call.
     pub fn make(&mut self, call: Call) -> Answer {
         match call {
-            Call::Clear => {
-                *self = Painting::new(self.raises);
-                Answer::Done
+            Call::Clear => *self = Painting::new(self.raises),
+            Call::Highest(a, b) => {
+                Painting::test(a, b)?;
+                return Ok(Told::Height(self.largest(a, b)));
             }
-            Call::Highest(a, b) if a >= b || b > WIDTH => Answer::Refused(11, 0),
-            Call::Highest(a, b) => Answer::Height(self.largest(a, b)),
-            Call::Raise(a, b, h) => self.raise(a, b, h),
-            Call::UseUp => {
-                self.left = 0;
-                Answer::Done
+            Call::Raise(a, b, h) => {
+                self.test_raise(a, b, h)?;
+                self.paint(a, b, h);
             }
+            Call::UseUp => self.left = 0,
         }
+        Ok(Told::Done)
     }
 }
