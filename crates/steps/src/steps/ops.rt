@@ -62,9 +62,9 @@ impl Skyline for Steps<'_> {
 }
 
 impl<'a> Steps<'a> {
-    #[tactic(auto, using(crate::proofs::Edges::none_ordered))]
     // A cleared skyline of so many columns, at most 67,108,864, and none without memory. R is half of one less than the number of
     // runs that the memory has room for, at most 65,536.
+    #[tactic(auto, using(crate::proofs::Edges::none_ordered))]
     pub fn new(runs: &'a mut [Run], columns: u32) -> Steps<'a>
         ensures { Fresh (sky_of result) (columns_over (length runs.old) columns) (raises_over (length runs.old)) }
     {
@@ -114,7 +114,7 @@ impl<'a> Steps<'a> {
         let runs = self.runs.in_use();
         let first = place_near(runs, self.near, span.start);
         let last = last_before(runs, first, span.end);
-        let highest = highest_top(&runs[first..last + 1], span.start, span.end);
+        let highest = highest_top(&runs[first..=last], span.start, span.end);
         Met {
             first,
             last,

@@ -31,6 +31,6 @@ pub(super) fn last_before(runs: &[Run], first: usize, b: u32) -> usize
     ensures forward { first ≤ result }
     ensures last { Holds runs.now result (b - 1) }
 {
-    let past = runs[first..].iter().position(|run| b <= run.end);
-    first + past.unwrap_or(0)
+    let walked = runs[first..].iter().position(|run| b <= run.end);
+    first + walked.unwrap_or(0)
 }
