@@ -1,7 +1,8 @@
 -- Each form found is just what its relation says.
-use Rattle.std.proofs.Common.{◌≡◌, ℕ, Bool, true, false, ◌&&◌, eqb, List, [], ◌∷◌, is_some, Some, None, codes, Decides, Option, sym, refl, ap, ◌∙◌, subst, ⊎_elim, arith}
+use Rattle.std.proofs.Common.{◌≡◌, Bool, true, false, ◌&&◌, eqb, List, [], ◌∷◌, is_some, Some, None, codes, Decides, Option, sym, refl, ap, ◌∙◌, subst, ⊎_elim}
 use Rattle.std.specs.Str.{bytes_eq}
 use Rattle.std.proofs.lemmas.Slice.Eq.{bytes_eq-Decides}
+use Rattle.std.proofs.lemmas.Option.{none-some, cond_some, some_pair_parts}
 use Rattle.std.proofs.lemmas.Bool.{cond-true, cond-false, cases_Bool, and_parts, and_from, eqb-true, eq-eqb, both_ways}
 use Rattle.rules.specs.declared.blocks.Size.{Size}
 use Rattle.words.specs.Words.{Word, with_rest}
@@ -14,13 +15,6 @@ use Rattle.grammar.specs.Forms.{word, name_word, header_of, count_of, terminal_o
 use Rattle.grammar.specs.Laws.{BlockLaw}
 use Rattle.grammar.specs.Relations.{Header, CountLine, TerminalLine, Vertex, Vertices, OutlineLine, rectangle, Exactly}
 
-pub none_some : {A : Type 0} {a : A} → None ≡ Some a → ⊥
-none_some {A} {a} e = let z : ◌≡◌ {A = ℕ} 0 1 = ap tag e in omega arith
-  where
-    tag : {A : Type 0} → Option A → ℕ
-    tag None = 0
-    tag (Some a) = 1
-
 -- what a word in front found
 
 pub record WordFirst {B : Type 0} (this : Word) (next : List Word → Option B) (ws : List Word) (b : B) : Type 0 where
@@ -29,11 +23,11 @@ pub record WordFirst {B : Type 0} (this : Word) (next : List Word → Option B) 
   pub goes_on : next rest ≡ Some b
 
 word_inv : {B : Type 0} (this : Word) (next : List Word → Option B) (ws : List Word) (b : B) → word this next ws ≡ Some b → WordFirst this next ws b
-word_inv this next [] b e = absurd (none_some e)
+word_inv this next [] b e = absurd (none-some _ e)
 word_inv this next (w ∷ ws) b e =
     ⊎_elim
     (λ t. record { rest = ws; form = ap (λ v. v ∷ ws) ((bytes_eq-Decides w this).0 t); goes_on = sym (cond-true (bytes_eq w this) _ _ t) ∙ e })
-    (λ f. absurd (none_some (sym (cond-false (bytes_eq w this) _ _ f) ∙ e)))
+    (λ f. absurd (none-some _ (sym (cond-false (bytes_eq w this) _ _ f) ∙ e)))
     (cases_Bool (bytes_eq w this))
 
 pub word_here : {B : Type 0} (this : Word) (next : List Word → Option B) (rest : List Word) → word this next (this ∷ rest) ≡ next rest
@@ -49,11 +43,11 @@ pub record ArgumentFirst {A B : Type 0} (says : Word → Option A) (f : A → Li
 
 module _ {A B : Type 0} (says : Word → Option A) (f : A → List Word → Option B) (b : B) where
   found_first : (w : Word) (ws : List Word) (o : Option A) → says w ≡ o → then (with_rest ws o) f ≡ Some b → ArgumentFirst says f (w ∷ ws) b
-  found_first w ws None s e = absurd (none_some e)
+  found_first w ws None s e = absurd (none-some _ e)
   found_first w ws (Some a) s e = record { front = w; rest = ws; value = a; form = refl; said = s; goes_on = e }
 
   argument_inv : (ws : List Word) → argument says f ws ≡ Some b → ArgumentFirst says f ws b
-  argument_inv [] e = absurd (none_some e)
+  argument_inv [] e = absurd (none-some _ e)
   argument_inv (w ∷ ws) e = found_first w ws (says w) refl e
 
   argument_here : (w : Word) (ws : List Word) (a : A) → says w ≡ Some a → argument says f (w ∷ ws) ≡ f a ws
@@ -61,12 +55,10 @@ module _ {A B : Type 0} (says : Word → Option A) (f : A → List Word → Opti
 
 end_inv : {B : Type 0} (b c : B) (ws : List Word) → end b ws ≡ Some c → (ws ≡ []) × (b ≡ c)
 end_inv b c [] e = (refl, cc)
-end_inv b c (w ∷ ws) e = absurd (none_some e)
+end_inv b c (w ∷ ws) e = absurd (none-some _ e)
 
 name_inv : (w n : Word) → name_word w ≡ Some n → (is_name w ≡ true) × (w ≡ n)
-name_inv w n e =
-    ⊎_elim (λ t. (t, let s = sym (cond-true (is_name w) (Some w) None t) ∙ e in cc)) (λ f. absurd (none_some (sym (cond-false (is_name w) (Some w) None f) ∙ e)))
-    (cases_Bool (is_name w))
+name_inv w n e = cond_some (is_name w) w n e
 
 name_here : (n : Word) → is_name n ≡ true → name_word n ≡ Some n
 name_here n t = cond-true (is_name n) _ _ t
@@ -78,7 +70,7 @@ pub record ThenFound {A B : Type 0} (o : Option (A × List Word)) (f : A → Lis
   pub goes_on : f value rest ≡ Some b
 
 then_inv : {A B : Type 0} (o : Option (A × List Word)) (f : A → List Word → Option B) (b : B) → then o f ≡ Some b → ThenFound o f b
-then_inv None f b e = absurd (none_some e)
+then_inv None f b e = absurd (none-some _ e)
 then_inv (Some p) f b e = record { value = p.0; rest = p.1; found = refl; goes_on = e }
 
 -- the header
@@ -185,9 +177,8 @@ corners_law ws q = (
 -- a line with a block's vertices
 
 named_inv : (n : Word) (o : Option Corners) (m : Word) (q : Corners) → with_name n o ≡ Some (m, q) → (n ≡ m) × (o ≡ Some q)
-named_inv n None m q e = absurd (none_some e)
-named_inv n (Some r) m q e =
-    let both : ◌≡◌ {A = Word × Corners} (n, r) (m, q) = cc e in (ap (λ p. p.0) both, ap (λ p. Some p.1) both)
+named_inv n None m q e = absurd (none-some _ e)
+named_inv n (Some r) m q e = let both = some_pair_parts n m r q e in (both.0, ap Some both.1)
 
 pub outline_law : (ws : List Word) (n : Word) (q : Corners) → (outline_of ws ≡ Some (n, q) → OutlineLine ws n q) × (OutlineLine ws n q → outline_of ws ≡ Some (n, q))
 outline_law ws n q = (
@@ -242,11 +233,7 @@ module _ (q : Corners) where
 
 pub size_law : (q : Corners) → Exactly (size_of q) (λ s. q ≡ rectangle s)
 size_law q s = (
-  λ e.
-      ⊎_elim
-      (λ t. let same : size q ≡ s = cc (sym (cond-true (upright q) (Some (size q)) None t) ∙ e) in upright_is q t ∙ ap rectangle same)
-      (λ f. absurd (none_some (sym (cond-false (upright q) (Some (size q)) None f) ∙ e)))
-      (cases_Bool (upright q)),
+  λ e. let is = cond_some (upright q) (size q) s e in upright_is q is.0 ∙ ap rectangle is.1,
   λ e.
       ap size_of e ∙
       cond-true (eqb s.height s.height && (eqb s.width s.width && true)) (Some s) None

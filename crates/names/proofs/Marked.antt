@@ -2,6 +2,7 @@
 use Rattle.std.proofs.Common.{◌≡◌, ℕ, ◌+◌, ◌≤◌, Bool, true, false, cond, leb, List, length, drop, is_some, Some, None, Option, sym, ap, ◌∙◌, arith}
 use Rattle.std.specs.Option.{option_map}
 use Rattle.std.proofs.lemmas.List.{length-take-le, length-drop}
+use Rattle.std.proofs.lemmas.Option.{cond_some}
 use Rattle.std.proofs.lemmas.Bool.{leb-true, and_parts}
 use Rattle.names.specs.declared.entries.Entry.{Entry}
 use Rattle.names.specs.Names.{is_name}
@@ -12,11 +13,6 @@ passed : {A : Type 0} (t : Bool) (a : A) → is_some (cond t (Some a) None) ≡ 
 passed true a e = e
 passed false a e = e
 
--- and is what the test lets through
-let_through : {A : Type 0} (t : Bool) (a b : A) → Some b ≡ cond t (Some a) None → b ≡ a
-let_through true a b e = cc
-let_through false a b e = let z : ◌≡◌ {A = ℕ} 0 1 = cc in absurd (omega arith)
-
 -- what a lent answer has, the answer has
 pub lent_some : {A B : Type 0} (f : A → B) (lent : Option A) (answer : Option B) (b : Bool) → option_map f lent ≡ answer → is_some lent ≡ b → is_some answer ≡ b
 lent_some f None answer b e h = ap is_some (sym e) ∙ h
@@ -24,7 +20,7 @@ lent_some f (Some x) answer b e h = ap is_some (sym e) ∙ h
 
 module _ (text : List ℕ) (e : Entry) where
   pub name_is_marked : (name : List ℕ) → Some name ≡ name_of text e → name ≡ marked text e
-  name_is_marked name h = let_through _ (marked text e) name h
+  name_is_marked name h = sym (cond_some _ (marked text e) name (sym h)).1
 
   module _ (h : is_some (name_of text e) ≡ true) where
     pub marks_within : e.start + e.len ≤ length text

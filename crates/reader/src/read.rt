@@ -49,6 +49,7 @@ fn fill(records: &mut [Entry], found: &[Found<'_>])
 }
 
 // Reads a .blocks text: answers the number of its blocks, and fills a record for each, in line order.
+#[tactic(auto, using(crate::proofs::Naming::said_named))]
 pub fn read_blocks(text: &[u8], records: &mut [Entry]) -> Result<usize, Refusal>
     ensures answer { result ≡ answer_of (in_room (length records.old) (said text.now)) }
     ensures records { records.new ≡ records_after (in_room (length records.old) (said text.now)) records.old }

@@ -19,21 +19,22 @@ module _ (before part bs : List ℕ) (at : ℕ) (h : at + length bs ≤ length b
   long : length (take at before ++ bs) ≡ at + length bs
   long = length-append (take at before) bs ∙ ap (λ n. n + length bs) (length-take-le at before (omega arith))
 
-  pub part_behind : take (at + length bs) after ≡ take at before ++ bs
-  part_behind = ap (take (at + length bs)) whole ∙ take_at (take at before ++ bs) _ (at + length bs) long
-
-  pub part_before : drop (at + length bs) after ≡ drop (length bs) (drop at before)
-  part_before = ap (drop (at + length bs)) whole ∙ drop_at (take at before ++ bs) _ (at + length bs) long
+  pub part_added : (take (at + length bs) after ≡ take at before ++ bs) × (drop (at + length bs) after ≡ drop (length bs) (drop at before))
+  part_added = (
+    ap (take (at + length bs)) whole ∙ take_at (take at before ++ bs) _ (at + length bs) long,
+    ap (drop (at + length bs)) whole ∙ drop_at (take at before ++ bs) _ (at + length bs) long,
+  )
 
 -- nothing, and a text with another straight behind it
 pub added_none : (p : Pen) → Added p [] p
-added_none p = record { behind = sym (append-nil (written p)); before = refl }
+added_none p = record { behind = sym (append-nil (written p)); before = refl; room = omega arith }
 
 pub added_more : {p q r : Pen} {s t : List ℕ} → Added p s q → Added q t r → Added p (s ++ t) r
 added_more {p} {q} {r} {s} {t} a b =
     record {
       behind = b.behind ∙ ap (λ l. l ++ t) a.behind ∙ append_assoc (written p) s t;
       before = b.before ∙ ap (drop (length t)) a.before ∙ drop-drop (length t) (length s) (ahead p) ∙ ap (λ n. drop n (ahead p)) (sym (length-append s t));
+      room = omega (arith, a.room, b.room, length-append s t);
     }
 
 -- what a pen that began at the front leaves of the caller's bytes
@@ -41,6 +42,3 @@ pub wrote_all : (p q : Pen) (text bytes : List ℕ) → written p ≡ [] → ahe
 unfolding written ahead
 wrote_all p q text bytes none all a =
     sym (take-append-drop q.at q.out.now) ∙ (λ i. (a.behind ∙ ap (λ l. l ++ text) none) i ++ (a.before ∙ ap (drop (length text)) all) i)
-
-pub length_ahead : {p q : Pen} {t : List ℕ} → Added p t q → length (ahead q) ≡ length (ahead p) - length t
-length_ahead {p} {q} {t} a = ap length a.before ∙ length-drop (length t) (ahead p)

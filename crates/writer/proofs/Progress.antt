@@ -8,7 +8,7 @@ use Rattle.names.specs.Entries.{name_of}
 use Rattle.writer.specs.declared.pen.Pen.{Pen}
 use Rattle.writer.specs.Bytes.{ahead, loan, Added}
 use Rattle.writer.specs.Texts.{header, line_of, lines_of, pl_text}
-use Rattle.writer.proofs.Adding.{added_more, length_ahead}
+use Rattle.writer.proofs.Adding.{added_more}
 
 pub length_pl_text : (text : List ℕ) (es : List Entry) (ps : List Placement) → length (pl_text text es ps) ≡ 13 + length (lines_of text es ps)
 unfolding pl_text
@@ -50,7 +50,7 @@ module _ (p q : Pen) (text whole : List ℕ) (es0 es : List Entry) (ps0 ps : Lis
 
   pub line_has_room : length whole ≤ length (ahead p) → length (line_of text e b) ≤ length (ahead q)
   line_has_room h =
-      omega (arith, ap length next_line, length-append c.done (line_of text e b ++ lines_of text es ps), length-append (line_of text e b) (lines_of text es ps), length_ahead c.added)
+      omega (arith, ap length next_line, length-append c.done (line_of text e b ++ lines_of text es ps), length-append (line_of text e b) (lines_of text es ps), c.added.room)
 
   pub one_more : (r : Pen) → loan r ≡ loan q → Added q (line_of text e b) r → Coming p r text whole es ps
   one_more r l a =
@@ -62,9 +62,6 @@ module _ (p q : Pen) (text whole : List ℕ) (es0 es : List Entry) (ps0 ps : Lis
         added = added_more c.added a;
         goes_on = append_assoc c.done (line_of text e b) (lines_of text es ps) ∙ next_line;
       }
-
-  pub next_named : is_some (name_of text e) ≡ true
-  next_named = let h = subst (AllByRecursion (λ e. is_some (name_of text e) ≡ true)) is c.to_come.named in h.0
 
 pub ended : (p q : Pen) (text whole : List ℕ) (es : List Entry) (ps : List Placement) → Coming p q text whole es ps → es ≡ [] → Added p whole q
 unfolding lines_of

@@ -1,5 +1,5 @@
 -- What a writer leaves in the caller's bytes.
-use Rattle.std.specs.Prelude.{◌≡◌, ℕ, List, ◌++◌, length, take, drop}
+use Rattle.std.specs.Prelude.{◌≡◌, ℕ, ◌+◌, List, ◌++◌, length, take, drop}
 use Rattle.std.specs.Borrow.{GName}
 use Rattle.writer.specs.declared.pen.Pen.{Pen}
 
@@ -23,3 +23,4 @@ loan p = p.out.ghost_name
 pub record Added (p : Pen) (text : List ℕ) (q : Pen) : Type 0 where
   pub behind : written q ≡ written p ++ text
   pub before : ahead q ≡ drop (length text) (ahead p)
+  pub room : length (ahead p) ≡ length text + length (ahead q)

@@ -46,6 +46,7 @@ impl<'a> Sheet<'a> {
 
 // Writes the .pl text of the blocks that have names in the text and places: a line for each block whose width is not 0, in number
 // order. Answers its length, and leaves the bytes behind it; a refusal leaves all bytes.
+#[tactic(auto, using(crate::proofs::Reading::read_back))]
 pub fn write_placements(
     text: &[u8],
     entries: &[Entry],

@@ -88,6 +88,7 @@ impl<'a, 'b> Blocks<'a, 'b> {
     }
 
     // The blocks, in line order.
+    #[tactic(auto, using(crate::proofs::Finding::few_lent))]
     pub(crate) fn as_slice(&self) -> &[Found<'a>]
         ensures blocks { map block_of result.now ≡ blocks_of self.now }
         ensures few { length result.now ≤ 512 }

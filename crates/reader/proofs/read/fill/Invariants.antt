@@ -1,4 +1,4 @@
-use Rattle.std.proofs.Common.{◌≡◌, map, length, take, drop}
+use Rattle.std.proofs.Common.{◌≡◌, map, take, drop}
 use Rattle.reader.specs.Text.{entry_of}
 use Rattle.reader.specs.Found.{block_of}
 use Rattle.reader.proofs.read.fill.Given as goal
