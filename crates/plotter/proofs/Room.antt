@@ -1,7 +1,8 @@
 -- A skyline of 67,108,864 columns and 512 raises has room for every plan.
-use Rattle.std.proofs.Common.{◌≡◌, ℕ, ◌≤◌, List, take, None, Ok, Err, Option, Result, sym, refl, ap, ◌∙◌, arith}
+use Rattle.std.proofs.Common.{◌≡◌, ℕ, ◌≤◌, List, take, None, Ok, Err, Option, Result, sym, ap, ◌∙◌, arith}
 use Rattle.std.proofs.lemmas.List.FromFn.{length-map-range_with_len}
 use Rattle.std.proofs.lemmas.List.{take_at}
+use Rattle.std.proofs.lemmas.Bool.Decides.{nat_tests}
 use Rattle.rules.specs.declared.placements.Placement.{Placement}
 use Rattle.rules.specs.declared.refusals.Refusal.{Refusal}
 use Rattle.rules.specs.Refusals.{answered}
@@ -12,26 +13,25 @@ use Rattle.promises.specs.Packs.{pack_refusal, placements, record_of, with_place
 use Rattle.plan.specs.declared.plans.Plan.{Plan as Held}
 use Rattle.plan.specs.Sound.{plan_of}
 use Rattle.plan.specs.Meaning.{rows, root_of}
-use Rattle.geometry.proofs.Bounds.{packed_near}
-use Rattle.packer.proofs.Present.{reads}
-use Rattle.packer.proofs.Refusing.{all_passed}
+use Rattle.packer.proofs.Standing.{stands, low, near}
+use Rattle.packer.proofs.Present.{rows_are}
 use Rattle.plotter.specs.Within.{Within}
 
 pub within : (plan : Held) → Within (plan_of (rows plan) (root_of plan))
-within plan = let r = reads plan (rows plan) (root_of plan) refl refl in record { near = packed_near r.stand; low = r.low }
+within plan = record { near = near (stands plan); low = low (stands plan) }
 
 -- no test refuses a packing with 512 records of each kind
 pub room_for_all : (plan : Held) (s : Sky) (walk records : ℕ) → 512 ≤ walk → 512 ≤ records → s.columns ≡ 67108864 → s.raises ≡ 512
     → pack_refusal (plan_of (rows plan) (root_of plan)) s walk records ≡ None
+unfolding pack_refusal
 room_for_all plan s walk records long many wide often =
-    let r = reads plan (rows plan) (root_of plan) refl refl in
+    let few = (stands plan).few in
+    let small = (stands plan).small in
+    let counted = rows_are plan in
     let w = within plan in
-    all_passed _ s walk records (record {
-      walk_long = omega (arith, r.stand.small, r.stand.few);
-      records_long = omega (arith, r.long, r.stand.few);
-      columns_wide = omega (arith, w.near);
-      raises_many = omega (arith, r.stand.small, r.stand.few);
-    }) r.low
+    let reach = w.near in
+    let high = w.low in
+    grind (arith, nat_tests)
 
 -- so its answer is no refusal
 pub not_refused : {X : Type 0} (o : Option Refusal) (x : X) (r : Result X Refusal) (e : Refusal) → r ≡ answered o x → r ≡ Err e → o ≡ None → ⊥
