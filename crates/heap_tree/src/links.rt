@@ -1,5 +1,5 @@
 // The links of the tree.
-ghost use Rattle.std.specs.Prelude.{◌≡◌, ◌<◌, ◌≤◌, map};
+ghost use Rattle.std.specs.Prelude.{◌≡◌, ◌<◌, map};
 ghost use Rattle.std.specs.List.{range_with_len};
 ghost use Rattle.heap_tree.specs.Heap.{child_link, child_pair};
 
@@ -7,23 +7,21 @@ use rules::blocks::{Children, MOST_BLOCKS, NONE};
 use std::array;
 
 // The number i if there is such a block, else none.
-fn child_link(i: usize, blocks: usize) -> u16
-    requires { blocks ≤ 512 }
+fn child_link(i: u16, blocks: u16) -> u16
     ensures { result ≡ child_link blocks i }
 {
-    if i < blocks { i as u16 } else { NONE }
+    if i < blocks { i } else { NONE }
 }
 
 // The root: block 0, none where there is no block.
-pub(crate) fn root_link(blocks: usize) -> u16
-    requires { blocks ≤ 512 }
+pub(crate) fn root_link(blocks: u16) -> u16
     ensures { result ≡ child_link blocks 0 }
 {
     child_link(0, blocks)
 }
 
-fn child_pair(k: usize, blocks: usize) -> Children
-    requires { (k < 512) × (blocks ≤ 512) }
+fn child_pair(k: u16, blocks: u16) -> Children
+    requires { k < 512 }
     ensures { result ≡ child_pair blocks k }
 {
     let (left, right) = (2 * k + 1, 2 * k + 2);
@@ -34,9 +32,8 @@ fn child_pair(k: usize, blocks: usize) -> Children
 }
 
 // The child pairs of so many blocks at the front, and behind them no children.
-pub(crate) fn child_pairs(blocks: usize) -> [Children; MOST_BLOCKS]
-    requires { blocks ≤ 512 }
+pub(crate) fn child_pairs(blocks: u16) -> [Children; MOST_BLOCKS]
     ensures { result ≡ map (child_pair blocks) (range_with_len 0 512) }
 {
-    array::from_fn(|k| child_pair(k, blocks))
+    array::from_fn(|k| child_pair(k as u16, blocks))
 }

@@ -20,12 +20,12 @@ pub fn load_heap(plan: &mut Settled, sizes: &[Size]) -> Result<usize, Refusal>
         return Err(Refusal::TooManyBlocks(0));
     }
     let letters = [b'F'; MOST_BLOCKS];
-    let children = child_pairs(blocks);
+    let children = child_pairs(blocks as u16);
     let lists = Lists {
         sizes,
         letters: &letters[..blocks],
         children: &children[..blocks],
-        root: root_link(blocks),
+        root: root_link(blocks as u16),
     };
     plan.load(lists, &mut [0; MOST_BLOCKS])
 }
