@@ -52,7 +52,11 @@ impl<'a> Iterator for Walk<'a> {
         let spot = self.stack.pop()?;
         let row = self.blocks[spot.block as usize];
         push_present(&mut self.stack, row.children.right, spot.left);
-        push_present(&mut self.stack, row.children.left, spot.left + row.size.width);
+        push_present(
+            &mut self.stack,
+            row.children.left,
+            spot.left + row.size.width,
+        );
         Some(Visit {
             block: spot.block,
             left: spot.left,
