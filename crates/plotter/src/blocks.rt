@@ -8,16 +8,16 @@ ghost use Rattle.plotter.specs.Plots.{size_of, plan_of_entries, named_text, Tell
 ghost use Rattle.plotter.specs.Within.{Seen};
 
 use crate::packs::places_of;
-use crate::sizes::sizes_of;
 use heap_tree::load_heap;
 use names::entries::Entry;
 use plan::Settled;
-use rules::blocks::MOST_BLOCKS;
+use rules::blocks::{MOST_BLOCKS, Size};
 use rules::placements::Placement;
 use rules::refusals::Refusal;
 use writer::write_placements;
 
-// The places of the blocks, at the front. The plan is memory for the tree.
+// The places of the blocks, at the front. The plan is memory for the tree. The sizes are written by number, since what `iter_mut`
+// lends beside another iterator has no value known at the end.
 fn packed_places(plan: Settled, entries: &[Entry]) -> [Placement; MOST_BLOCKS]
     requires few { length entries.now ≤ 512 }
     requires sized { first (wrong_size (map size_of entries.now)) 0 (length (map size_of entries.now)) ≡ None }
@@ -25,8 +25,11 @@ fn packed_places(plan: Settled, entries: &[Entry]) -> [Placement; MOST_BLOCKS]
     ensures places { take (length entries.now) result ≡ placements (plan_of_entries entries.now) }
 {
     let mut plan = plan;
-    let sizes = sizes_of(entries);
-    let Ok(_) = load_heap(&mut plan, &sizes[0..entries.len()]) else {
+    let mut sizes = [Size::default(); MOST_BLOCKS];
+    for (i, entry) in entries.iter().enumerate() {
+        sizes[i] = entry.size;
+    }
+    let Ok(_) = load_heap(&mut plan, &sizes[..entries.len()]) else {
         unreachable()
     };
     places_of(plan.plan())

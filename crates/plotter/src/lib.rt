@@ -4,7 +4,6 @@ mod blocks;
 mod packs;
 mod plotting;
 mod samples;
-mod sizes;
 
 pub use plotting::plot;
 pub use samples::sample_plots;
