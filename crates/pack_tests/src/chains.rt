@@ -1,5 +1,5 @@
 // 512 blocks of the largest size in a row, and one above the other.
-use crate::lists::load;
+use crate::lists::{Tree, load};
 use crate::tasks::{OLD_HEIGHTS, OLD_PLACE, Refused, Task, check_over_each, check_over_records};
 use packer::Extent;
 use plan::Settled;
@@ -27,7 +27,12 @@ fn chain(rt: &impl Abort, heap: Global, is_left: bool) -> Result<Settled, Fail> 
         children.push(in_chain(block, is_left))?;
     }
     let mut plan = Settled::new(heap)?;
-    assert!(rt; load(heap, &mut plan, &[LARGEST; 512], &children, 0)?);
+    let tree = Tree {
+        sizes: &[LARGEST; 512],
+        children: &children,
+        root: 0,
+    };
+    assert!(rt; load(heap, &mut plan, tree)?);
     Ok(plan)
 }
 

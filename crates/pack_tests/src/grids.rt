@@ -1,6 +1,7 @@
 // Packing by painting cells: each block falls from above, row by row, until it meets a painted cell or the floor.
+use crate::lists::Tree;
 use crate::tasks::OLD_PLACE;
-use rules::blocks::{Children, NONE, Size};
+use rules::blocks::{NONE, Size};
 use rules::placements::Placement;
 use std::alloc::{AllocError, Global};
 
@@ -89,24 +90,19 @@ pub fn extent(columns: &[u32; 12]) -> (u32, u32) {
 }
 
 // Drops the blocks in depth-first order, a left child at its parent's right edge, a right child at its left edge.
-pub fn painted(
-    heap: Global,
-    sizes: &[Size],
-    children: &[Children],
-    root: u16,
-) -> Result<Grid, AllocError> {
+pub fn painted(heap: Global, tree: Tree<'_>) -> Result<Grid, AllocError> {
     let mut grid = Grid {
         cells: [false; 144],
         places: [OLD_PLACE; 5],
     };
-    let mut pending = vec![in heap; (root, 0u32)]?;
+    let mut pending = vec![in heap; (tree.root, 0u32)]?;
     // each of four blocks, and the empty places under them
     for _ in 0..9 {
         let (block, x) = pending.pop().unwrap_or((NONE, 0));
-        let Some(pair) = children.get(block as usize) else {
+        let Some(pair) = tree.children.get(block as usize) else {
             continue;
         };
-        let right = grid.drop_block(block, x, sizes);
+        let right = grid.drop_block(block, x, tree.sizes);
         pending.push((pair.right, x))?;
         pending.push((pair.left, right))?;
     }

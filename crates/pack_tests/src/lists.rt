@@ -3,21 +3,23 @@ use plan::Settled;
 use rules::blocks::{Children, Lists, Size};
 use std::alloc::{AllocError, Global};
 
-// Whether load takes the lists.
-pub fn load(
-    heap: Global,
-    plan: &mut Settled,
-    sizes: &[Size],
-    children: &[Children],
-    root: u16,
-) -> Result<bool, AllocError> {
-    let letters = vec![in heap; b'F'; sizes.len()]?;
-    let mut walk = vec![in heap; 0u16; sizes.len()]?;
+// Blocks with their links.
+#[derive(Clone, Copy)]
+pub struct Tree<'a> {
+    pub sizes: &'a [Size],
+    pub children: &'a [Children],
+    pub root: u16,
+}
+
+// Whether load takes the tree.
+pub fn load(heap: Global, plan: &mut Settled, tree: Tree<'_>) -> Result<bool, AllocError> {
+    let letters = vec![in heap; b'F'; tree.sizes.len()]?;
+    let mut walk = vec![in heap; 0u16; tree.sizes.len()]?;
     let lists = Lists {
-        sizes,
+        sizes: tree.sizes,
         letters: &letters,
-        children,
-        root,
+        children: tree.children,
+        root: tree.root,
     };
     let answer = plan.load(lists, &mut walk);
     Ok(answer.is_ok())

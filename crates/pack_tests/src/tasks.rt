@@ -34,7 +34,7 @@ const OLD_RUN: Run = Run {
 // The heights of the first columns before a packing, after one raise.
 pub const OLD_HEIGHTS: [u32; 9] = [0, 0, 5, 5, 5, 5, 0, 0, 0];
 
-// A refusal's number and place.
+// A refusal's number and place, as in skyline_tests: a crate for these lines would be longer.
 #[derive(Clone, Copy, PartialEq, Eq, Debug)]
 pub struct Refused(pub u8, pub u32);
 

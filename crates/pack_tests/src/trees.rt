@@ -1,6 +1,6 @@
 // Every tree of up to four blocks with sides 1 and 2, with each numbering of its blocks.
 use crate::grids::{extent, painted};
-use crate::lists::load;
+use crate::lists::{Tree, load};
 use crate::tasks::{Task, check_over_each};
 use packer::Extent;
 use plan::Settled;
@@ -51,11 +51,9 @@ fn check_packed(
     heap: Global,
     plan: &Settled,
     n: u32,
-    sizes: &[Size],
-    children: &[Children],
-    root: u16,
+    tree: Tree<'_>,
 ) -> Result<(), Fail> {
-    let grid = painted(heap, sizes, children, root)?;
+    let grid = painted(heap, tree)?;
     let heights = grid.columns();
     let (width, height) = extent(&heights);
     let task = Task {
@@ -81,10 +79,15 @@ fn check_links(
 ) -> Result<bool, Fail> {
     for code in 0..256u32 {
         let sizes = sides(heap, n, code)?;
-        if !load(heap, plan, &sizes, children, root)? {
+        let tree = Tree {
+            sizes: &sizes,
+            children,
+            root,
+        };
+        if !load(heap, plan, tree)? {
             return Ok(false);
         }
-        check_packed(rt, heap, plan, n, &sizes, children, root)?;
+        check_packed(rt, heap, plan, n, tree)?;
     }
     Ok(true)
 }

@@ -1,6 +1,6 @@
 // The worked cases, K and K after an edit, in memory that just suffices; and what is refused where one record, column or raise is
 // lacking.
-use crate::lists::load;
+use crate::lists::{Tree, load};
 use crate::tasks::{OLD_HEIGHTS, OLD_PLACE, Refused, Task, check_over_each, check_over_records};
 use packer::Extent;
 use plan::{Plan, Settled};
@@ -25,7 +25,12 @@ fn plan_k(rt: &impl Abort, heap: Global) -> Result<Settled, Fail> {
     let leaf = pair(NONE, NONE);
     let children = [pair(1, 2), pair(3, 4), leaf, leaf, leaf];
     let mut plan = Settled::new(heap)?;
-    assert!(rt; load(heap, &mut plan, &sizes, &children, 0)?);
+    let tree = Tree {
+        sizes: &sizes,
+        children: &children,
+        root: 0,
+    };
+    assert!(rt; load(heap, &mut plan, tree)?);
     Ok(plan)
 }
 

@@ -26,7 +26,8 @@ struct Branch<'a> {
 
 impl<'a> Branch<'a> {
     fn new(blocks: &'a [Block], first: u16, side: Side) -> Branch<'a>
-        ensures { ahead result ≡ branch_of side blocks.now first }
+        ensures blocks { result.blocks.now ≡ blocks.now }
+        ensures ahead { ahead result ≡ branch_of side blocks.now first }
     {
         Branch {
             blocks,
@@ -61,36 +62,47 @@ fn is_bare(blocks: &[Block], i: u16, side: Side) -> bool
         .is_some_and(|b| b.children.on(side) == NONE)
 }
 
-// The last block of the branch from `first` on.
-fn branch_end(blocks: &[Block], first: u16, side: Side) -> u16
-    ensures { result ≡ end_of (branch_of side blocks.now first) }
-{
-    Branch::new(blocks, first, side).last().unwrap_or(NONE)
-}
+impl<'a> Branch<'a> {
+    // Its last block.
+    fn end(self) -> u16
+        ensures { result ≡ end_of (ahead self.entry) }
+    {
+        self.last().unwrap_or(NONE)
+    }
 
-// Whether block i is on the branch from `first` on.
-fn on_branch(blocks: &[Block], first: u16, side: Side, i: u16) -> bool
-    ensures { result ≡ among i (branch_of side blocks.now first) }
-{
-    Branch::new(blocks, first, side).any(|block| i == block)
-}
+    // Whether block i is on it.
+    fn holds(mut self, i: u16) -> bool
+        ensures { result ≡ among i (ahead self.entry) }
+    {
+        self.any(|block| i == block)
+    }
 
-// Whether no block of the branch from `first` on has a child on the other side.
-fn is_childless(blocks: &[Block], first: u16, side: Side, other: Side) -> bool
-    ensures { result ≡ childless other blocks.now (branch_of side blocks.now first) }
-{
-    Branch::new(blocks, first, side).all(|block| is_bare(blocks, block, other))
+    // Whether none of its blocks has a child on that side.
+    fn is_childless(mut self, other: Side) -> bool
+        ensures { result ≡ childless other self.entry.blocks.now (ahead self.entry) }
+    {
+        let blocks = self.blocks;
+        self.all(|block| is_bare(blocks, block, other))
+    }
 }
 
 impl Table {
+    // The branch from the root on.
+    fn branch(&self, side: Side) -> Branch<'_>
+        ensures blocks { result.blocks.now ≡ self.now.blocks.items }
+        ensures ahead { ahead result ≡ branch_of side self.now.blocks.items self.now.root }
+    {
+        Branch::new(&self.blocks, self.root, side)
+    }
+
     // Whether i is on the branch that turns off at the end of the branch from the root on, none of whose blocks has a child
     // on the first side.
     fn kept_at_foot(&self, side: Side, i: u16) -> bool
         ensures { result ≡ foot_kept side i self.now.blocks.items self.now.root }
     {
-        let foot = branch_end(&self.blocks, self.root, side);
-        let turned = side.opposite();
-        is_childless(&self.blocks, foot, turned, side) && on_branch(&self.blocks, foot, turned, i)
+        let foot = self.branch(side).end();
+        let turned = Branch::new(&self.blocks, foot, side.opposite());
+        turned.is_childless(side) && turned.holds(i)
     }
 
     // Whether block i keeps that letter.
@@ -100,8 +112,8 @@ impl Table {
     {
         match letter {
             Letter::Free => true,
-            Letter::Bottom => on_branch(&self.blocks, self.root, Side::Left, i),
-            Letter::Left => on_branch(&self.blocks, self.root, Side::Right, i),
+            Letter::Bottom => self.branch(Side::Left).holds(i),
+            Letter::Left => self.branch(Side::Right).holds(i),
             Letter::Right => self.kept_at_foot(Side::Left, i),
             Letter::Top => self.kept_at_foot(Side::Right, i),
         }
