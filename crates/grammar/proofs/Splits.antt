@@ -1,5 +1,5 @@
 -- Where the first word of a line stands.
-use Rattle.std.proofs.Common.{◌≡◌, ℕ, ◌+◌, ◌≤◌, List, ◌∷◌, length, take, drop, sym, ap, ◌∙◌, arith}
+use Rattle.std.proofs.Common.{◌≡◌, ℕ, ◌+◌, ◌≤◌, List, ◌∷◌, length, take, drop}
 use Rattle.words.specs.Words.{Word}
 use Rattle.words.proofs.Splits.{first_word}
 use Rattle.grammar.specs.Words.{blank, mark, words, indent}

@@ -1,31 +1,9 @@
 -- A search from 0 up that stops at the first number that a test finds.
-use Rattle.std.proofs.Common.{◌≡◌, ℕ, zero, suc, ◌+◌, ◌-◌, ◌<◌, ◌≤◌, Bool, true, false, cond, List, [], ◌∷◌, length, get_or, Some, None, sym, refl, ap, ◌∙◌, subst, inl, inr, arith}
+use Rattle.std.proofs.Common.{◌≡◌, ℕ, zero, suc, ◌+◌, ◌<◌, ◌≤◌, Bool, true, false, cond, List, [], ◌∷◌, length, get_or, Some, None, sym, refl, ap, ◌∙◌, subst, inl, inr, arith}
 use Rattle.std.specs.List.{position, position_from}
 use Rattle.std.proofs.lemmas.Iterator.Adapters.{position_from-zero}
 use Rattle.std.proofs.lemmas.Bool.{cond-true, cond-false, cases_Bool, cases_eq}
 use Rattle.rules.specs.Loads.{first}
-
--- the search has come to i: what it finds from there on is what it finds at all
-abbrev pub Searching : (ℕ → Bool) → ℕ → ℕ → Type 0
-Searching f i n = first f i (n - i) ≡ first f 0 n
-
-pub begun : (f : ℕ → Bool) (n : ℕ) → Searching f 0 n
-begun f n = let e : n - 0 ≡ n = omega arith in ap (first f 0) e
-
--- one step of the search
-step : (f : ℕ → Bool) (i n : ℕ) → i < n → first f i (n - i) ≡ cond (f i) (Some i) (first f (i + 1) (n - (i + 1)))
-unfolding first
-step f i n h = let e : n - i ≡ suc (n - (i + 1)) = omega arith in ap (first f i) e
-
-pub passed : (f : ℕ → Bool) (i n : ℕ) → i < n → f i ≡ false → Searching f i n → Searching f (i + 1) n
-passed f i n h not s = sym (cond-false (f i) (Some i) _ not) ∙ sym (step f i n h) ∙ s
-
-pub found : (f : ℕ → Bool) (i n : ℕ) → i < n → f i ≡ true → Searching f i n → Some i ≡ first f 0 n
-found f i n h is s = sym (cond-true (f i) _ (first f (i + 1) (n - (i + 1))) is) ∙ sym (step f i n h) ∙ s
-
-pub ended : (f : ℕ → Bool) (i n : ℕ) → n ≤ i → Searching f i n → None ≡ first f 0 n
-unfolding first
-ended f i n h s = let e : n - i ≡ 0 = omega arith in sym (ap (first f i) e) ∙ s
 
 -- where nothing is found, the test fails at every number
 pub none_found : (f : ℕ → Bool) (n : ℕ) → first f 0 n ≡ None → (k : ℕ) → k < n → f k ≡ false
@@ -35,7 +13,7 @@ none_found f n e k h = from 0 n k e (omega arith) (omega arith)
     from : (i c m : ℕ) → first f i c ≡ None → i ≤ m → m < i + c → f m ≡ false
     from i zero m q lo hi = absurd (omega arith)
     from i (suc c) m q lo hi = elim (cases_Bool (f i)) [
-      | inl is ↦ absurd (let z : ◌≡◌ {A = ℕ} 0 1 = cc (sym (cond-true (f i) (Some i) (first f (i + 1) c) is) ∙ q) in omega arith)
+      | inl is ↦ cc (sym (cond-true (f i) (Some i) (first f (i + 1) c) is) ∙ q)
       | inr not ↦ elim (cases_eq i m) [
         | inl here ↦ subst (λ (x : ℕ). f x ≡ false) here not
         | inr other ↦ from (i + 1) c m (sym (cond-false (f i) (Some i) (first f (i + 1) c) not) ∙ q) (omega arith) (omega arith)
@@ -48,7 +26,7 @@ unfolding first
 found_at f n k e = let a = from 0 n e in (omega (arith, a.0), a.1, λ j h. a.2 j (omega arith) h)
   where
     from : (i c : ℕ) → first f i c ≡ Some k → (k < i + c) × (f k ≡ true) × ((j : ℕ) → i ≤ j → j < k → f j ≡ false)
-    from i zero q = absurd (let z : ◌≡◌ {A = ℕ} 0 1 = cc in omega arith)
+    from i zero q = cc
     from i (suc c) q = elim (cases_Bool (f i)) [
       | inl is ↦
           let here : i ≡ k = cc (sym (cond-true (f i) (Some i) (first f (i + 1) c) is) ∙ q) in

@@ -1,23 +1,16 @@
 -- What a packing answers, and what it leaves in the caller's memory.
-use Rattle.std.specs.Prelude.{◌≡◌, ℕ, cond, List, length, Some, None, Ok, Err, Result, ◌≢◌}
+use Rattle.std.specs.Prelude.{◌≡◌, ℕ, List, length, Some, None, Ok, Err, Result, ◌≢◌}
 use Rattle.rules.specs.declared.placements.Placement.{Placement}
 use Rattle.rules.specs.declared.refusals.Refusal.{Refusal}
 use Rattle.rules.specs.declared.refusals.Refusal.TheVariants.{MemoryTooShort, TopTooHigh}
 use Rattle.rules.specs.Refusals.{answered}
-use Rattle.rules.specs.Links.{sum_below}
 use Rattle.rules.specs.Plans.{Plan}
 use Rattle.rules.specs.Packing.{packed, reach, height}
 use Rattle.rules.specs.Skylines.{Sky}
 use Rattle.promises.specs.Packs.{pack_refusal, with_placements, Under}
-use Rattle.table.specs.declared.blocks.Block.{Block}
-use Rattle.table.specs.Tables.{at}
 use Rattle.packer.specs.declared.spots.Extent.{Extent}
 use Rattle.packer.specs.declared.spots.Spot.{Spot}
 use Rattle.packer.specs.Places.{Enough}
-
--- how many of the rows 0 to n - 1 are marked present
-abbrev pub marked : List Block → ℕ → ℕ
-marked bs n = sum_below (λ k. cond (at bs k).present 1 0) n
 
 -- The tests of a packing give the reach, or the first refusal. It is never 25, since 512 blocks of height 131,072 have no top over
 -- 67,108,864. The walk memory is as it was if it is 18.

@@ -1,5 +1,5 @@
 -- What the table says of a block is what the plan says.
-use Rattle.std.proofs.Common.{◌≡◌, ℕ, ◌<◌, ◌≤◌, Bool, List, map, length, None, sym, ap, ◌∙◌, inl, inr, arith}
+use Rattle.std.proofs.Common.{◌≡◌, ℕ, ◌<◌, Bool, List, map, length, None, sym, ap, ◌∙◌, inl, inr, arith}
 use Rattle.std.proofs.lemmas.Bool.{cases_eq, cases_lt, eq-eqb, ne_eqb, lt-ltb, le-ltb, cond-true, cond-false}
 use Rattle.std.proofs.lemmas.List.{get_or-map}
 use Rattle.rules.specs.declared.blocks.Children.{Children}
@@ -12,7 +12,7 @@ use Rattle.table.specs.declared.blocks.Block.{Block}
 use Rattle.table.specs.Tables.{at, blank, lefts, rights, Holds}
 use Rattle.table.proofs.Holding.{Sp}
 use Rattle.plan.specs.declared.reports.Report.{Report}
-use Rattle.plan.specs.Sound.{table_tree, Sound, plan_of}
+use Rattle.plan.specs.Sound.{table_tree, plan_of}
 use Rattle.plan.specs.Reports.{top_of, children_in, report_of}
 use Rattle.plan.proofs.Sounds.{holds}
 use Rattle.plan.proofs.Changes.{within}

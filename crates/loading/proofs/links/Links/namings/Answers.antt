@@ -2,7 +2,7 @@ use Rattle.std.proofs.Common.{ℕ, ◌+◌, ◌≤◌, cond, eqb, sym, ap, ◌�
 use Rattle.std.proofs.lemmas.List.{get_or-replicate}
 use Rattle.rules.specs.Links.{left_of, right_of}
 use Rattle.rules.proofs.Counts.{flag_le}
-use Rattle.loading.proofs.Trees.{linked, rooted}
+use Rattle.loading.proofs.Trees.{linked}
 use Rattle.loading.proofs.Namings.{leading_none, leading_more, leading_le, wider}
 use Rattle.loading.proofs.links.Links.namings.Goals as goal
 
