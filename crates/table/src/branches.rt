@@ -9,7 +9,6 @@ ghost use Rattle.table.specs.Branches.{branch_of, end_of, childless, foot_kept, 
 ghost use Rattle.table.specs.Walks.{ahead};
 
 use crate::blocks::Block;
-use crate::tables::Table;
 use rules::blocks::{Letter, NONE};
 use rules::edits::Side;
 use std::mem;
@@ -86,36 +85,26 @@ impl<'a> Branch<'a> {
     }
 }
 
-impl Table {
-    // The branch from the root on.
-    fn branch(&self, side: Side) -> Branch<'_>
-        ensures blocks { result.blocks.now ≡ self.now.blocks.items }
-        ensures ahead { ahead result ≡ branch_of side self.now.blocks.items self.now.root }
-    {
-        Branch::new(&self.blocks, self.root, side)
-    }
+// Whether i is on the branch that turns off at the end of the branch from the root on, where no block of the branch that turns off
+// has a child on the first side.
+fn kept_at_foot(blocks: &[Block], root: u16, side: Side, i: u16) -> bool
+    ensures { result ≡ foot_kept side i blocks.now root }
+{
+    let foot = Branch::new(blocks, root, side).end();
+    let turned = Branch::new(blocks, foot, side.opposite());
+    turned.is_childless(side) && turned.holds(i)
+}
 
-    // Whether i is on the branch that turns off at the end of the branch from the root on, none of whose blocks has a child
-    // on the first side.
-    fn kept_at_foot(&self, side: Side, i: u16) -> bool
-        ensures { result ≡ foot_kept side i self.now.blocks.items self.now.root }
-    {
-        let foot = self.branch(side).end();
-        let turned = Branch::new(&self.blocks, foot, side.opposite());
-        turned.is_childless(side) && turned.holds(i)
-    }
-
-    // Whether block i keeps that letter.
-    pub fn is_letter_kept(&self, letter: Letter, i: u16) -> bool
-        ensures links { result ≡ kept_by_links letter i self.now.blocks.items self.now.root }
-        ensures tree { (t : Tree) → Holds self.now.blocks.items self.now.root t → result ≡ letter_kept letter i t }
-    {
-        match letter {
-            Letter::Free => true,
-            Letter::Bottom => self.branch(Side::Left).holds(i),
-            Letter::Left => self.branch(Side::Right).holds(i),
-            Letter::Right => self.kept_at_foot(Side::Left, i),
-            Letter::Top => self.kept_at_foot(Side::Right, i),
-        }
+// Whether block i keeps that letter.
+pub fn is_letter_kept(blocks: &[Block], root: u16, letter: Letter, i: u16) -> bool
+    ensures links { result ≡ kept_by_links letter i blocks.now root }
+    ensures tree { (t : Tree) → Holds blocks.now root t → result ≡ letter_kept letter i t }
+{
+    match letter {
+        Letter::Free => true,
+        Letter::Bottom => Branch::new(blocks, root, Side::Left).holds(i),
+        Letter::Left => Branch::new(blocks, root, Side::Right).holds(i),
+        Letter::Right => kept_at_foot(blocks, root, Side::Left, i),
+        Letter::Top => kept_at_foot(blocks, root, Side::Right, i),
     }
 }

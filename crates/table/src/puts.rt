@@ -4,7 +4,6 @@ ghost use Rattle.rules.specs.Trees.{Tree, put_in};
 ghost use Rattle.table.specs.Tables.{Holds, Keeps, FitsIn, put, put_root, alone, under};
 
 use crate::blocks::Block;
-use crate::tables::Table;
 use rules::blocks::{Children, NONE};
 use rules::edits::Side;
 
@@ -34,22 +33,22 @@ fn put_under(blocks: &mut [Block], i: u16, j: u16, side: Side)
     blocks[j as usize] = above;
 }
 
-impl Table {
-    // Puts i in under j on that side, or alone into an empty tree.
-    pub fn put_in(&mut self, i: u16, j: u16, side: Side)
-        ensures after { self.new.blocks.items ≡ put i j side self.old.root self.old.blocks.items }
-        ensures root { self.new.root ≡ put_root i self.old.root self.old.blocks.items }
-        ensures keeps { Keeps self.old.blocks.items self.new.blocks.items }
-        ensures tree { (t : Tree) → Holds self.old.blocks.items self.old.root t → FitsIn i j self.old.blocks.items t → Holds self.new.blocks.items self.new.root (put_in i j side t) }
-    {
-        if i as usize >= self.blocks.len() {
-            return;
-        }
-        if self.root == NONE {
-            put_alone(&mut self.blocks, i);
-            self.root = i;
-        } else if (j as usize) < self.blocks.len() {
-            put_under(&mut self.blocks, i, j, side);
-        }
+// Puts i in under j on that side, or alone into an empty tree, and answers the tree's root.
+pub fn put_in(blocks: &mut [Block], root: u16, i: u16, j: u16, side: Side) -> u16
+    ensures after { blocks.new ≡ put i j side root blocks.old }
+    ensures root { result ≡ put_root i root blocks.old }
+    ensures keeps { Keeps blocks.old blocks.new }
+    ensures tree { (t : Tree) → Holds blocks.old root t → FitsIn i j blocks.old t → Holds blocks.new result (put_in i j side t) }
+{
+    if i as usize >= blocks.len() {
+        return root;
     }
+    if root == NONE {
+        put_alone(blocks, i);
+        return i;
+    }
+    if (j as usize) < blocks.len() {
+        put_under(blocks, i, j, side);
+    }
+    root
 }

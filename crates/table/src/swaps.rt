@@ -5,31 +5,28 @@ ghost use Rattle.table.specs.Tables.{Holds, Keeps, swapped, both_within, has_bot
 
 use crate::blocks::Block;
 use crate::renames::{Exchange, Renaming, rename_links};
-use crate::tables::Table;
 
-impl Table {
-    // Exchanges the places of i and j in the tree.
-    pub fn swap(&mut self, i: u16, j: u16)
-        ensures after { self.new.blocks.items ≡ swapped i j self.old.blocks.items }
-        ensures root { self.new.root ≡ (if both_within i j self.old.blocks.items then exchange i j self.old.root else self.old.root) }
-        ensures keeps { Keeps self.old.blocks.items self.new.blocks.items }
-        ensures tree { (t : Tree) → Holds self.old.blocks.items self.old.root t → has_both i j t → Holds self.new.blocks.items self.new.root (swap i j t) }
-    {
-        if i as usize >= self.blocks.len() || j as usize >= self.blocks.len() {
-            return;
-        }
-        let exchange = Exchange(i, j);
-        rename_links(&mut self.blocks, &exchange);
-        let a = self.blocks[i as usize];
-        let b = self.blocks[j as usize];
-        self.blocks[i as usize] = Block {
-            children: b.children,
-            ..a
-        };
-        self.blocks[j as usize] = Block {
-            children: a.children,
-            ..b
-        };
-        self.root = exchange.rename(self.root);
+// Exchanges the places of i and j in the tree, and answers its root.
+pub fn swap_places(blocks: &mut [Block], root: u16, i: u16, j: u16) -> u16
+    ensures after { blocks.new ≡ swapped i j blocks.old }
+    ensures root { result ≡ (if both_within i j blocks.old then exchange i j root else root) }
+    ensures keeps { Keeps blocks.old blocks.new }
+    ensures tree { (t : Tree) → Holds blocks.old root t → has_both i j t → Holds blocks.new result (swap i j t) }
+{
+    if i as usize >= blocks.len() || j as usize >= blocks.len() {
+        return root;
     }
+    let exchange = Exchange(i, j);
+    rename_links(blocks, &exchange);
+    let a = blocks[i as usize];
+    let b = blocks[j as usize];
+    blocks[i as usize] = Block {
+        children: b.children,
+        ..a
+    };
+    blocks[j as usize] = Block {
+        children: a.children,
+        ..b
+    };
+    exchange.rename(root)
 }

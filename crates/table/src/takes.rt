@@ -5,7 +5,6 @@ ghost use Rattle.table.specs.Tables.{Holds, Keeps, lowered, heir, joined, taken,
 
 use crate::blocks::Block;
 use crate::renames::{Redirect, Renaming, rename_links};
-use crate::tables::Table;
 use rules::blocks::{Children, NONE};
 
 // Hangs the subtree at `first` under `start` as its left child, and what stood there under the next block of the
@@ -52,24 +51,22 @@ fn join(blocks: &mut [Block], left: u16, right: u16) -> u16
     raised
 }
 
-impl Table {
-    // Takes i out of the tree.
-    pub fn take_out(&mut self, i: u16)
-        ensures after { self.new.blocks.items ≡ taken i self.old.blocks.items }
-        ensures root { self.new.root ≡ taken_root i self.old.root self.old.blocks.items }
-        ensures keeps { Keeps self.old.blocks.items self.new.blocks.items }
-        ensures tree { (t : Tree) → Holds self.old.blocks.items self.old.root t → 0 < count i t → Holds self.new.blocks.items self.new.root (take_out i t) }
-    {
-        if i as usize >= self.blocks.len() {
-            return;
-        }
-        let Children { left, right } = self.blocks[i as usize].children;
-        let heir = join(&mut self.blocks, left, right);
-        let redirect = Redirect(i, heir);
-        rename_links(&mut self.blocks, &redirect);
-        let b = &mut self.blocks[i as usize];
-        b.children = Children::NONE;
-        b.present = false;
-        self.root = redirect.rename(self.root);
+// Takes i out of the tree, and answers the tree's root.
+pub fn take_out(blocks: &mut [Block], root: u16, i: u16) -> u16
+    ensures after { blocks.new ≡ taken i blocks.old }
+    ensures root { result ≡ taken_root i root blocks.old }
+    ensures keeps { Keeps blocks.old blocks.new }
+    ensures tree { (t : Tree) → Holds blocks.old root t → 0 < count i t → Holds blocks.new result (take_out i t) }
+{
+    if i as usize >= blocks.len() {
+        return root;
     }
+    let Children { left, right } = blocks[i as usize].children;
+    let heir = join(blocks, left, right);
+    let redirect = Redirect(i, heir);
+    rename_links(blocks, &redirect);
+    let b = &mut blocks[i as usize];
+    b.children = Children::NONE;
+    b.present = false;
+    redirect.rename(root)
 }

@@ -1,10 +1,12 @@
-use Rattle.std.proofs.Common.{arith}
-use Rattle.std.proofs.lemmas.Grind.{common_steps}
-use Rattle.table.proofs.Swapping.{swap_keeps, swap_holds}
+use Rattle.std.proofs.Common.{sym, subst, arith}
+use Rattle.std.proofs.lemmas.List.{with_items_is}
+use Rattle.rules.specs.Trees.{swap}
+use Rattle.table.specs.Tables.{Holds}
 use Rattle.table.proofs.tables.Table.swap.Goals as goal
 
-pub returns-clause-keeps : goal.returns-clause-keeps
-returns-clause-keeps c = swap_keeps c.args.i c.args.j c.args.self.now.blocks.items _ (grind (arith, common_steps))
-
 pub returns-clause-tree : goal.returns-clause-tree
-returns-clause-tree c = swap_holds c.args.i c.args.j c.args.self.now.blocks.items c.args.self.now.root _ _ (grind (arith, common_steps)) (grind (arith, common_steps))
+returns-clause-tree c = λ t h b.
+    let v = c.args.self.now.blocks in
+    let s = c.swap_places-self in
+    let held = subst (λ bs. Holds bs c.args.self.now.root t) (sym c.as_mut_slice.ensures.value) h in
+    subst (λ bs. Holds bs s.result (swap c.args.i c.args.j t)) (sym (with_items_is v s.new.blocks (omega arith))) (s.ensures.tree t held b)
