@@ -173,9 +173,6 @@ module _ (cs : List Children) (few : length cs ≤ 512) where
       let a = pending_added root [] (tree_of cs root) [] t.spelt tt in
       record { trees = a.0; pending = a.1; counted = λ k. omega (arith, a.2 k, ap {B = ℕ} (λ b. cond b 1 0) (unmarked 512 k)) }
 
-  pub room_for_root : {root : ℕ} → Treed cs root → root < 65535 → 0 < length cs
-  room_for_root {root} t some = omega (arith, walking_length t (walk_start t), added_length root [] some)
-
   pub walk_end : {root : ℕ} {es : List ℕ} {reached : List Bool} → Walking cs root es reached → es ≡ [] → (k : ℕ) → mark reached k ≡ count k (tree_of cs root)
   unfolding counts
   walk_end {root} {es} {reached} v is k =

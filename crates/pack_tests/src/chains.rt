@@ -3,7 +3,8 @@ use crate::lists::{Tree, load};
 use crate::tasks::{OLD_HEIGHTS, OLD_PLACE, Refused, Task, check_over_each, check_over_records};
 use packer::Extent;
 use plan::Settled;
-use rules::blocks::{Children, NONE, Size};
+use rules::blocks::{Children, Size};
+use rules::edits::Side;
 use rules::placements::Placement;
 use std::alloc::{AllocError, Global};
 use std::process::Abort;
@@ -14,17 +15,19 @@ const LARGEST: Size = Size {
     height: 131_072,
 };
 
-// The children of a block in a chain of 512 left children, or else of right ones.
-fn in_chain(block: u16, is_left: bool) -> Children {
-    let next = if block < 511 { block + 1 } else { NONE };
-    let (left, right) = if is_left { (next, NONE) } else { (NONE, next) };
-    Children { left, right }
+// The children of a block in a chain of 512 children on that side.
+fn in_chain(block: u16, side: Side) -> Children {
+    let mut children = Children::NONE;
+    if block < 511 {
+        children.set(side, block + 1);
+    }
+    children
 }
 
-fn chain(rt: &impl Abort, heap: Global, is_left: bool) -> Result<Settled, Fail> {
+fn chain(rt: &impl Abort, heap: Global, side: Side) -> Result<Settled, Fail> {
     let mut children = Vec::new(heap);
     for block in 0..512u16 {
-        children.push(in_chain(block, is_left))?;
+        children.push(in_chain(block, side))?;
     }
     let mut plan = Settled::new(heap)?;
     let tree = Tree {
@@ -53,7 +56,7 @@ fn steps_of(heap: Global, right: u32, up: u32) -> Result<Vec<Placement>, AllocEr
 // A row that reaches just the last column that a skyline has.
 #[test]
 fn in_a_row(rt: HostRuntime) -> Result<(), Fail> {
-    let plan = chain(&rt, rt.alloc(), true)?;
+    let plan = chain(&rt, rt.alloc(), Side::Left)?;
     let places = steps_of(rt.alloc(), 131_072, 0)?;
     let task = Task {
         walk: 512,
@@ -73,7 +76,7 @@ fn in_a_row(rt: HostRuntime) -> Result<(), Fail> {
 // With one column fewer it is refused.
 #[test]
 fn in_a_row_too_long(rt: HostRuntime) -> Result<(), Fail> {
-    let plan = chain(&rt, rt.alloc(), true)?;
+    let plan = chain(&rt, rt.alloc(), Side::Left)?;
     let task = Task {
         walk: 512,
         columns: 67_108_863,
@@ -89,7 +92,7 @@ fn in_a_row_too_long(rt: HostRuntime) -> Result<(), Fail> {
 // One above the other, up to half of the greatest height.
 #[test]
 fn in_a_column(rt: HostRuntime) -> Result<(), Fail> {
-    let plan = chain(&rt, rt.alloc(), false)?;
+    let plan = chain(&rt, rt.alloc(), Side::Right)?;
     let places = steps_of(rt.alloc(), 0, 131_072)?;
     let task = Task {
         walk: 512,

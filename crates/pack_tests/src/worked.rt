@@ -140,8 +140,7 @@ fn place([x, y, width, height]: [u32; 4]) -> Placement {
 
 // In just as many records, columns and raises as it takes.
 fn check_case(rt: &impl Abort, heap: Global, plan: &Plan, case: &Case) -> Result<(), Fail> {
-    let [a, b, c, d, e] = case.places;
-    let places = [place(a), place(b), place(c), place(d), place(e)];
+    let places = case.places.map(place);
     let (width, height) = case.extent;
     let task = Task {
         walk: case.present as usize,
@@ -167,7 +166,6 @@ fn check_trial(rt: &impl Abort, heap: Global, case: &Case) -> Result<(), Fail> {
 #[test]
 fn edits_of_k(rt: HostRuntime) -> Result<(), Fail> {
     for case in &EDITED {
-        let edit = case.edit;
         check_trial(&rt, rt.alloc(), case)?;
     }
     Ok(())

@@ -57,7 +57,7 @@ fn tested_reach<S: Skyline>(
 }
 
 // Places the present blocks of a plan, each resting on those before it in depth-first order, and writes one record a block. It
-// stands apart from `pack`, whose clause `shows` follows from this whole clause, for the refused and the accepted at once.
+// stands apart from `pack`, where `shows` follows from this clause as a whole: in one function `shows` was not proved at its returns.
 fn pack_plan<S: Skyline>(
     plan: &Plan,
     skyline: &mut S,

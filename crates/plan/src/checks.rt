@@ -32,7 +32,7 @@ impl Plan {
         self.table.blocks[i as usize].present
     }
 
-    // 9.
+    // Refuses a number that is no block of the plan.
     fn test_known(&self, i: u16) -> Result<(), Refusal>
         ensures { result ≡ answered (when (nat_le (block_count (meant self.now.table)) i) (NoSuchBlock i) None) tt }
     {
@@ -42,7 +42,7 @@ impl Plan {
         Ok(())
     }
 
-    // 21.
+    // Refuses an absent block.
     fn test_standing(&self, i: u16) -> Result<(), Refusal>
         requires { i < block_count (meant self.now.table) }
         ensures { result ≡ answered (when (not (present (meant self.now.table) i)) (Absent i) None) tt }
@@ -53,7 +53,7 @@ impl Plan {
         Ok(())
     }
 
-    // 9, then 21.
+    // Refuses a number that is no block, and then an absent block.
     pub(crate) fn test_present(&self, i: u16) -> Result<(), Refusal>
         ensures { result ≡ answered (absent_refusal (meant self.now.table) i) tt }
     {

@@ -1,6 +1,7 @@
 // What a plan tells in either state, held to what is expected.
 use crate::places::Place;
 use plan::{Report, Settled, Tried};
+use rules::blocks::Size;
 use rules::refusals::Refusal;
 use std::process::Abort;
 use std::test::Fail;
@@ -69,14 +70,6 @@ pub fn check_tree<P: Telling>(rt: &impl Abort, plan: &P, tree: &[Place]) -> Resu
     check_unknown(rt, plan, u16::try_from(tree.len())?)
 }
 
-fn check_report(rt: &impl Abort, block: u16, told: Report, expected: Report) -> Result<(), Fail> {
-    assert_eq!(rt; told.size, expected.size, "block {block}");
-    assert_eq!(rt; told.children, expected.children, "block {block}");
-    assert_eq!(rt; told.letter, expected.letter, "block {block}");
-    assert_eq!(rt; told.kept, expected.kept, "block {block}");
-    Ok(())
-}
-
 // The blocks are these, all present, and each has its report.
 pub fn check_reports<P: Telling>(
     rt: &impl Abort,
@@ -84,7 +77,7 @@ pub fn check_reports<P: Telling>(
     reports: &[Report],
 ) -> Result<(), Fail> {
     for (block, report) in (0u16..).zip(reports) {
-        check_report(rt, block, plan.tell(block)?, *report)?;
+        assert_eq!(rt; plan.tell(block)?, *report, "block {block}");
     }
     check_unknown(rt, plan, u16::try_from(reports.len())?)
 }
@@ -96,12 +89,11 @@ pub fn check_sides<P: Telling>(
     sides: &[(u32, u32)],
 ) -> Result<(), Fail> {
     for (block, (width, height)) in (0u16..).zip(sides) {
-        let size = plan.tell(block)?.size;
-        assert_eq!(rt;
-            (size.width, size.height),
-            (*width, *height),
-            "block {block}"
-        );
+        let expected = Size {
+            width: *width,
+            height: *height,
+        };
+        assert_eq!(rt; plan.tell(block)?.size, expected, "block {block}");
     }
     check_unknown(rt, plan, u16::try_from(sides.len())?)
 }

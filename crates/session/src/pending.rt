@@ -1,6 +1,7 @@
 // The lines of a script that are still to come.
-ghost use Rattle.std.specs.Prelude.{◌<◌, ◌≤◌, length, MatchOption};
+ghost use Rattle.std.specs.Prelude.{length};
 ghost use Rattle.std.specs.Iterator.{at_most};
+ghost use Rattle.session.specs.Pending.{Stepped};
 
 use words::split::next_line;
 
@@ -14,7 +15,7 @@ pub struct Pending<'a> {
 impl<'a> Iterator for Pending<'a> {
     type Item = &'a [u8];
 
-    ghost next_gives = { λ s r t. MatchOption r (length t.rest.now ≤ length s.rest.now) (λ line. length t.rest.now < length s.rest.now) };
+    ghost next_gives = { λ s r t. Stepped s.rest.now s.number r t.rest.now t.number };
 
     ghost remaining = { λ s. at_most (length s.rest.now) };
 
