@@ -1,4 +1,5 @@
 pub mod Adding
+pub mod Digits
 pub mod Finding
 pub mod Progress
 pub mod Spans

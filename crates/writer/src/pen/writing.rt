@@ -3,7 +3,6 @@ ghost use Rattle.std.specs.Prelude.{◌≡◌, ◌≤◌, [], length, decimal};
 ghost use Rattle.writer.specs.Bytes.{written, ahead, loan, Wrote, Added};
 
 use super::Pen;
-use itoa::Buffer;
 
 // Writes the bytes at the front.
 fn put_bytes(out: &mut [u8], bytes: &[u8])
@@ -35,13 +34,18 @@ impl<'a> Pen<'a> {
         self.at = at + bytes.len();
     }
 
-    // Writes a number in decimal.
+    // Writes a number in decimal: by hand, since the library `itoa` would be one more to trust.
     pub(crate) fn decimal(&mut self, n: u32)
         requires { length (decimal n) ≤ length (ahead self.old) }
         ensures added { Added self.old (decimal n) self.new }
         ensures loan { loan self.new ≡ loan self.old }
     {
-        self.bytes(Buffer::new().format(n).as_bytes());
+        if n < 10 {
+            self.bytes(&[b'0' + n as u8]);
+            return;
+        }
+        self.decimal(n / 10);
+        self.bytes(&[b'0' + (n % 10) as u8]);
     }
 
     // How many bytes are written.
@@ -55,7 +59,7 @@ impl<'a> Pen<'a> {
 // How many digits a number has.
 pub(crate) fn digit_count(n: u32) -> usize
     ensures is { result ≡ length (decimal n) }
-    ensures few { result ≤ 40 }
+    ensures few { result ≤ 10 }
 {
-    Buffer::new().format(n).len()
+    if n < 10 { 1 } else { digit_count(n / 10) + 1 }
 }

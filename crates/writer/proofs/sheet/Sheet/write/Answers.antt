@@ -1,6 +1,7 @@
 use Rattle.std.proofs.Common.{rules}
 use Rattle.std.specs.Iterator.Adapters.{zip_first, zip_second}
 use Rattle.std.specs.Slice.Iter.{iter_rest}
+use Rattle.std.proofs.lemmas.List.{take_all}
 use Rattle.std.proofs.lemmas.Iterator.{empty_from_Zip}
 use Rattle.writer.proofs.Progress.{begun, line_has_room, one_more, ended}
 use Rattle.writer.proofs.sheet.Sheet.write.Goals as goal
@@ -8,7 +9,7 @@ use Rattle.writer.proofs.sheet.Sheet.write.Goals as goal
 pub loop-entry-init : goal.loop-entry-init
 loop-entry-init c =
     begun c.args.pen.now c.bytes.new.self c.args.self.text.now c.args.self.entries.now _ c.args.self.places.now _
-    (record { lengths = c.requires.lengths; named = c.requires.named }) c.bytes.ensures.loan c.bytes.ensures.added (search rules) (search rules)
+    (record { lengths = c.requires.lengths; named = c.requires.named }) c.bytes.ensures.loan c.bytes.ensures.added (search (rules, take_all)) (search rules)
 
 pub write_line-requires-clause-room : goal.write_line-requires-clause-room
 write_line-requires-clause-room c =
