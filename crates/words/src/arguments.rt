@@ -5,7 +5,7 @@ ghost use Rattle.words.specs.Numbers.{number_of, number_up_to, block_of};
 ghost use Rattle.words.specs.Words.{Word, words, byte_of, side_of, Taken};
 
 use crate::split::{Spaced, next_word};
-use crate::word::number_of;
+use crate::word::{number_of, number_up_to};
 use rules::edits::Side;
 
 // What an argument can be, and how a word says it.
@@ -40,8 +40,7 @@ impl<const MOST: u32> Argument for UpTo<MOST> {
     ghost says = { number_up_to MOST };
 
     fn from_word(word: &[u8]) -> Option<u32> {
-        let n = number_of(word)?;
-        (n <= MOST).then_some(n)
+        number_up_to(word, MOST)
     }
 }
 
@@ -96,6 +95,15 @@ pub fn first<A: Argument>(args: &[u8]) -> Option<(A::Value, &[u8])>
 {
     let (word, rest) = next_word::<Spaced>(args)?;
     Some((A::from_word(word)?, rest))
+}
+
+// The first argument where it is a number that is at most so large, by a limit that may be known at run time alone.
+#[tactic(auto, unfolding(crate::specs::Words::words))]
+pub fn up_to(args: &[u8], most: u32) -> Option<(u32, &[u8])>
+    ensures { Taken (number_up_to most) (words args.now) result }
+{
+    let (word, rest) = next_word::<Spaced>(args)?;
+    Some((number_up_to(word, most)?, rest))
 }
 
 // Whether no argument is left.

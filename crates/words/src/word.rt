@@ -1,7 +1,7 @@
 // What one word says.
 ghost use Rattle.std.specs.Prelude.{◌≡◌, ◌≤◌, length};
 ghost use Rattle.std.specs.Str.{bytes_eq};
-ghost use Rattle.words.specs.Numbers.{spelt_after, number_of};
+ghost use Rattle.words.specs.Numbers.{spelt_after, number_of, number_up_to};
 
 // Whether a word is this one.
 pub fn is(word: &[u8], name: &[u8]) -> bool
@@ -31,4 +31,12 @@ pub fn number_of(word: &[u8]) -> Option<u32>
         return None;
     }
     spelt(word)
+}
+
+// The number that a word spells, if it is at most so large.
+pub fn number_up_to(word: &[u8], most: u32) -> Option<u32>
+    ensures { result ≡ number_up_to most word.now }
+{
+    let n = number_of(word)?;
+    (n <= most).then_some(n)
 }
