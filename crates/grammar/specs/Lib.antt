@@ -1,5 +1,4 @@
 pub mod Words
-pub mod Gathered
 pub mod Lines
 pub mod Forms
 pub mod Relations

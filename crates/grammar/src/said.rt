@@ -4,7 +4,7 @@ ghost use Rattle.grammar.specs.Words.{words};
 ghost use Rattle.grammar.specs.Forms.{header_of, count_of};
 ghost use Rattle.grammar.specs.Relations.{Says};
 
-use crate::first_words::FirstWords;
+use crate::first_words::{first_words, no_words};
 use crate::forms::{count_of, is_header, is_terminal, outline_of};
 use crate::outlines::Item;
 
@@ -13,7 +13,7 @@ use crate::outlines::Item;
 pub fn is_header_line(line: &[u8]) -> bool
     ensures { result ≡ is_some (header_of (words line.now)) }
 {
-    is_header(FirstWords::of(line).as_slice())
+    is_header(first_words(line, &mut no_words(line)))
 }
 
 // The count that a line gives under a label.
@@ -21,7 +21,7 @@ pub fn is_header_line(line: &[u8]) -> bool
 pub fn count_line(label: &[u8], line: &[u8]) -> Option<u32>
     ensures { result ≡ count_of label.now (words line.now) }
 {
-    count_of(label, FirstWords::of(line).as_slice())
+    count_of(label, first_words(line, &mut no_words(line)))
 }
 
 // What a line of the body says; none if it breaks its form.
@@ -29,8 +29,8 @@ pub fn count_line(label: &[u8], line: &[u8]) -> Option<u32>
 pub fn item_of(line: &[u8]) -> Option<Item<'_>>
     ensures { Says (words line.now) result }
 {
-    let first = FirstWords::of(line);
-    let words = first.as_slice();
+    let mut room = no_words(line);
+    let words = first_words(line, &mut room);
     if is_terminal(words) {
         return Some(Item::Terminal);
     }

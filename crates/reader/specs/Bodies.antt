@@ -4,7 +4,7 @@ use Rattle.rules.specs.declared.refusals.Refusal.{Refusal}
 use Rattle.grammar.specs.Lines.{Line}
 use Rattle.reader.specs.declared.counts.Counts.{Counts}
 use Rattle.reader.specs.declared.blocks.Blocks.{Blocks}
-use Rattle.reader.specs.Text.{Block, counted, body, said_by, said}
+use Rattle.reader.specs.Text.{Block, counted, body, said_by}
 use Rattle.reader.specs.Found.{blocks_of}
 
 -- the lines in front of the body have been read, or one is refused
@@ -22,7 +22,7 @@ abbrev pub BodyRead : List Line → List Block → Result ℕ Refusal → List B
 BodyRead ls before (Ok t) after = (c : Counts) → body c before 0 ls ≡ counted c after t
 BodyRead ls before (Err e) after = (c : Counts) → body c before 0 ls ≡ Err e
 
--- the whole text has been read, or is refused
-abbrev pub TextRead : List ℕ → Result Blocks Refusal → Type 0
-TextRead text (Ok bs) = said text ≡ Ok (blocks_of bs)
-TextRead text (Err e) = said text ≡ Err e
+-- all lines of a text have been read, or one is refused
+abbrev pub TextRead : List Line → Result Blocks Refusal → Type 0
+TextRead ls (Ok bs) = said_by ls ≡ Ok (blocks_of bs)
+TextRead ls (Err e) = said_by ls ≡ Err e

@@ -1,6 +1,7 @@
 // A whole text.
 ghost use Rattle.std.specs.Prelude.{◌≡◌, ◌≤◌, List, ◌++◌, map, length, drop, Ok};
 ghost use Rattle.std.specs.List.{AllByRecursion};
+ghost use Rattle.reader.specs.Left.{lines_left};
 ghost use Rattle.reader.specs.Bodies.{TextRead};
 ghost use Rattle.reader.specs.Found.{block_of, Named};
 ghost use Rattle.reader.specs.Text.{Block, said, in_room, entry_of, answer_of, records_after};
@@ -14,14 +15,13 @@ use names::entries::Entry;
 use rules::blocks::MOST_BLOCKS;
 use rules::refusals::Refusal;
 
-// The blocks of a text, in line order.
+// The blocks that the lines of a text tell, in line order.
 fn read_text<'a, 'b>(
-    text: &'a [u8],
+    mut lines: UsedLines<'a>,
     memory: &'b mut [Found<'a>; MOST_BLOCKS],
 ) -> Result<Blocks<'a, 'b>, Refusal>
-    ensures { TextRead text.now result }
+    ensures { TextRead (lines_left lines.entry) result }
 {
-    let mut lines = UsedLines::of(text)?;
     let counts = take_counts(&mut lines)?;
     let mut blocks = Blocks::over(memory);
     let terminals = read_body(lines, &mut blocks)?;
@@ -55,8 +55,9 @@ pub fn read_blocks(text: &[u8], records: &mut [Entry]) -> Result<usize, Refusal>
     ensures records { records.new ≡ records_after (in_room (length records.old) (said text.now)) records.old }
     ensures names { (blocks : List Block) → said text.now ≡ Ok blocks → AllByRecursion (Named text.now) blocks }
 {
+    let lines = UsedLines::of(text)?;
     let mut memory = [Found::none(text); MOST_BLOCKS];
-    let blocks = read_text(text, &mut memory)?;
+    let blocks = read_text(lines, &mut memory)?;
     let found = blocks.as_slice();
     if records.len() < found.len() {
         return Err(Refusal::MemoryTooShort);

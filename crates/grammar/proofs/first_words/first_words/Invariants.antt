@@ -1,6 +1,6 @@
 use Rattle.std.proofs.Common.{◌≡◌, ◌++◌, map, length, take}
 use Rattle.grammar.specs.Words.{words}
-use Rattle.grammar.proofs.first_words.FirstWords.of.Given as goal
+use Rattle.grammar.proofs.first_words.first_words.Given as goal
 
 -- the words found, and behind them those of what is left
 abbrev pub invariant-loop-count : goal.invariant-loop-count
