@@ -14,7 +14,7 @@ pub(crate) fn no_words(line: &[u8]) -> Room<'_> {
     [&line[..0]; ROOM]
 }
 
-// The words of a line, as many as there is room for. The room is lent, since what is handed back by value is copied for each line.
+// The words of a line, as many as there is room for. The room is lent: handed back with its count it was copied for each line.
 pub(crate) fn first_words<'a, 'b>(line: &'a [u8], room: &'b mut Room<'a>) -> &'b [&'a [u8]]
     ensures { map (λ w. w.now) result.now ≡ take 24 (words line.now) }
 {

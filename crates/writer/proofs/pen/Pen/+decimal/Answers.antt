@@ -1,4 +1,4 @@
-use Rattle.std.proofs.Common.{◌+◌, subst, sym, arith, rules}
+use Rattle.std.proofs.Common.{subst, sym, arith, rules}
 use Rattle.std.proofs.lemmas.Fmt.{decimal_digit, decimal_step}
 use Rattle.writer.specs.Bytes.{Added}
 use Rattle.writer.proofs.Adding.{added_more}
